@@ -1,0 +1,13 @@
+-- The rules on abstract syntax. Definitions, in reading order: each file is one figure of source document 003, in document 01's form.
+pub mod Value
+pub mod Program
+pub mod Run
+pub mod Bench
+pub mod WellFormed
+pub mod Code
+pub mod Controller
+pub mod SlotRules
+pub mod Translation
+pub mod Extras
+pub mod Matching
+pub mod Statement

@@ -1,0 +1,59 @@
+-- Figure 1: the source language. A procedure (document 01) is a program; its functions and labelled blocks are numbered, and so are variables.
+use Prim.Native.Nat.{ℕ, _+_}
+use mathlib.Core.List.{List, []}
+use lib.IntN.{ℤ}
+use lib.ListN.{getD}
+
+-- Function numbers and variable numbers are two sets with nothing in common; labels are a third. Main is function 0.
+abbrev pub FunctionNumber : Type 0
+FunctionNumber = ℕ
+
+-- Parameters are variables 0 upward, locals follow.
+abbrev pub Variable : Type 0
+Variable = ℕ
+
+-- The labelled blocks of a function are labelled 1 upward.
+abbrev pub Label : Type 0
+Label = ℕ
+
+-- H of figure 1: 0 for none, else a label.
+abbrev pub Handler : Type 0
+Handler = ℕ
+
+-- B of figure 1: operations up to and including the first of 5 to 8. The comment gives document 01's operation number.
+pub data Block : Type 0 where
+  constant : Variable → ℤ → Block → Block  -- 1  x := i; B
+  copy : Variable → Variable → Block → Block  -- 2  x := y; B
+  difference : Variable → Variable → Variable → Block → Block  -- 3  x := y - z; B
+  call : Variable → FunctionNumber → List Variable → Block → Block  -- 4  x := g(ys); B
+  goto : Label → Block  -- 5  goto L
+  return : Variable → Block  -- 6  return x
+  branch : Variable → Variable → Label → Label → Block  -- 7  if y ≤ z then L1 else L2
+  raise : Block  -- 8  raise
+
+-- L(H) : B
+pub record Labelled : Type 0 where
+  pub handler : Handler
+  pub block : Block
+
+-- D of figure 1: f(xs){var ys; B0; L1(H1) : B1; ..}
+pub record Function : Type 0 where
+  pub params : ℕ
+  pub locals : ℕ
+  pub entry : Block
+  pub blocks : List Labelled
+
+abbrev pub Program : Type 0
+Program = List Function
+
+-- The number of a function's variables.
+abbrev pub variables : Function → ℕ
+variables F = F .params + F .locals
+
+-- What stands for a function that is not there.
+abbrev pub noFunction : Function
+noFunction = record { params = 0; locals = 0; entry = raise; blocks = [] }
+
+-- Function f of P. Everything below asks this only of functions that are there.
+abbrev pub functionOf : Program → FunctionNumber → Function
+functionOf P f = getD P f noFunction

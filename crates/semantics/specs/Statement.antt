@@ -1,0 +1,119 @@
+-- What is claimed of the rules: demand 3 as one statement, and demand 1's "each of its steps has a next step or a named end".
+-- Whoever doubts the price list reads this file first; Theorem.antt proves it.
+use Prim.Native.Nat.{ℕ, suc, _+_, _≤_, _<_}
+use mathlib.Core.Path.{_≡_}
+use mathlib.Core.Logic.{_↔_}
+use mathlib.Core.List.{List}
+use lib.IntN.{ℤ}
+use lib.ListN.{length}
+use Rattle.semantics.specs.Program.{FunctionNumber, Block, constant, copy, difference, call, goto, return, branch, raise, Program, variables, functionOf}
+use Rattle.semantics.specs.Run.{End, Stop, ended, spent, deep, broken, Result}
+use Rattle.semantics.specs.Bench.{State, state, bench}
+use Rattle.semantics.specs.WellFormed.{All, WellFormed}
+use Rattle.semantics.specs.Code.{Expr, letConstant, letSlot, letDifference, jump, resume, handle, ifAtMost, letContinuation, letBoth, Code}
+use Rattle.semantics.specs.Controller.{Control, doing, controller, targetOf}
+use Rattle.semantics.specs.SlotRules.{KeepsSlotRules}
+use Rattle.semantics.specs.Translation.{slotOf, number, translate}
+use Rattle.semantics.specs.Extras.{extras}
+use Rattle.semantics.specs.Matching.{Holding, going, holding, HoldingsMatch, Matches}
+
+abbrev pub IsCall : Block → Type 0
+IsCall (constant x i b) = ⊥
+IsCall (copy x y b) = ⊥
+IsCall (difference x y z b) = ⊥
+IsCall (call x g ys b) = Unit {0}
+IsCall (goto l) = ⊥
+IsCall (return x) = ⊥
+IsCall (branch y z l m) = ⊥
+IsCall raise = ⊥
+
+-- Tag 8 or 9.
+abbrev pub MakesRecord : Expr → Type 0
+MakesRecord (letConstant x i e) = ⊥
+MakesRecord (letSlot x y e) = ⊥
+MakesRecord (letDifference x y z e) = ⊥
+MakesRecord (jump g k h ss) = ⊥
+MakesRecord (resume k y) = ⊥
+MakesRecord (handle h) = ⊥
+MakesRecord (ifAtMost y z e₁ e₂) = ⊥
+MakesRecord (letContinuation x p e k) = Unit {0}
+MakesRecord (letBoth x p t e h k) = Unit {0}
+
+-- The same call: states match, the bench at a call and the controller at the tag 8 or 9 that it became.
+abbrev pub SameCall : Program → State → Control → Type 0
+SameCall P (state f h b vs fs) (doing e env rs) = Matches P (state f h b vs fs) (doing e env rs) × IsCall b × MakesRecord e
+
+-- A run, as a function of its budget, ends with e; stops deep; runs on for ever: no end and no deep stop at any budget.
+abbrev pub EndsWith : {S : Type 0} → (ℕ → Result S) → End → Type 0
+EndsWith R e = (n : ℕ) × (R n .stop ≡ ended e)
+
+abbrev pub IsDeep : {S : Type 0} → Stop S → Type 0
+IsDeep (ended e) = ⊥
+IsDeep (spent s) = ⊥
+IsDeep (deep s) = Unit {0}
+IsDeep (broken s) = ⊥
+
+abbrev pub IsSpent : {S : Type 0} → Stop S → Type 0
+IsSpent (ended e) = ⊥
+IsSpent (spent s) = Unit {0}
+IsSpent (deep s) = ⊥
+IsSpent (broken s) = ⊥
+
+abbrev pub Forever : {S : Type 0} → (ℕ → Result S) → Type 0
+Forever R = (n : ℕ) → IsSpent (R n .stop)
+
+-- Bench runs B with extras X, and controller runs C, each by budget. `B n .steps + X n` is bench steps + extras.
+pub record Agree (P : Program) (B : ℕ → Result State) (X : ℕ → ℕ) (C : ℕ → Result Control) : Type 0 where
+  -- Run for exactly bench steps + extras, the controller has taken them all ..
+  pub counted : (n : ℕ) → C (B n .steps + X n) .steps ≡ B n .steps + X n
+  -- .. and holds the matching state or the same end.
+  pub matching : (n : ℕ) → HoldingsMatch P (holding (B n .stop)) (holding (C (B n .steps + X n) .stop))
+  -- One ends with a value exactly when the other ends with the same value, and one ends uncaught exactly when the other does.
+  pub sameEnd : (e : End) → EndsWith B e ↔ EndsWith C e
+  -- With one step more for each, one stops deep exactly when the other does ..
+  pub sameDeep : (n : ℕ) → IsDeep (B (B n .steps + 1) .stop) ↔ IsDeep (C (B n .steps + X n + 1) .stop)
+  -- .. at the same call, both reporting the steps they had.
+  pub sameCall : (n : ℕ) (s : State) (c : Control) → B (B n .steps + 1) .stop ≡ deep s → C (B n .steps + X n + 1) .stop ≡ deep c
+      → SameCall P s c × (B (B n .steps + 1) .steps ≡ B n .steps) × (C (B n .steps + X n + 1) .steps ≡ B n .steps + X n)
+  -- One runs on for ever exactly when the other does.
+  pub sameForever : Forever B ↔ Forever C
+  -- A run that ended or stopped deep is the same at every larger budget.
+  pub benchStays : (n m : ℕ) → ¬ IsSpent (B n .stop) → n ≤ m → (B m ≡ B n) × (X m ≡ X n)
+  pub controllerStays : (n m : ℕ) → ¬ IsSpent (C n .stop) → n ≤ m → C m ≡ C n
+
+-- Demand 3 of the rules. f is the start function, 0 for main.
+abbrev pub Demand3 : Type 0
+Demand3 = (P : Program) → WellFormed P → (f : FunctionNumber) → f < length P
+    → (args : List ℤ) → length args ≡ functionOf P f .params → (d : ℕ)
+    → Agree P (bench P f args d) (extras P f args d) (controller (translate P) (number P f) args d)
+
+-- A run is never stuck, and no more than d frames (records) are ever in use.
+abbrev pub IsBroken : {S : Type 0} → Stop S → Type 0
+IsBroken (ended e) = ⊥
+IsBroken (spent s) = ⊥
+IsBroken (deep s) = ⊥
+IsBroken (broken s) = Unit {0}
+
+abbrev pub waiting : State → ℕ
+waiting (state f h b vs fs) = length fs
+
+abbrev pub inUse : Control → ℕ
+inUse (doing e env rs) = length rs
+
+pub record Sound {S : Type 0} (frames : S → ℕ) (d : ℕ) (R : ℕ → Result S) : Type 0 where
+  pub moves : (n : ℕ) → ¬ IsBroken (R n .stop)
+  pub limit : (n : ℕ) (s : S) → holding (R n .stop) ≡ going s → frames s ≤ d
+
+-- Each step of the bench has a next step or a named end, for every well-formed program.
+abbrev pub BenchSound : Type 0
+BenchSound = (P : Program) → WellFormed P → (f : FunctionNumber) → f < length P
+    → (args : List ℤ) → length args ≡ functionOf P f .params → (d : ℕ) → Sound waiting d (bench P f args d)
+
+-- Each step of the controller has a next step or a named end, for every code that keeps the slot rules, hand-written code too.
+abbrev pub ControllerSound : Type 0
+ControllerSound = (m : ℕ) (Q : Code) → KeepsSlotRules m Q → (g : ℕ) → g < length Q
+    → (args : List ℤ) → length args ≡ targetOf Q g .params → (d : ℕ) → Sound inUse d (controller Q g args d)
+
+-- The translation of a well-formed program keeps the slot rules, and names only functions that exist, with their argument counts.
+abbrev pub TranslationKeepsRules : Type 0
+TranslationKeepsRules = (m : ℕ) (P : Program) → WellFormed P → All (λ F. slotOf (suc (variables F)) < m) P → KeepsSlotRules m (translate P)
