@@ -11,3 +11,11 @@ pub mod Translation
 pub mod Extras
 pub mod Matching
 pub mod Statement
+-- Laws and theorems.
+pub mod ListLaws
+pub mod RunLaws
+pub mod TranslationLaws
+pub mod MatchingLaws
+pub mod SlotLaws
+pub mod Follow
+pub mod FollowCall

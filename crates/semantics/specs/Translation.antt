@@ -63,11 +63,14 @@ number P zero = 0
 number [] (suc f) = 0
 number (F ∷ P) (suc f) = targets F + number P f
 
--- T(D) for each D in turn, the first entry having number base.
+-- T(D), its entry having number base.
+abbrev pub translateFunction : (FunctionNumber → ℕ) → ℕ → Function → Code
+translateFunction numbers base F = entryTarget numbers base F ∷ map (blockTarget numbers base (variables F)) (F .blocks)
+
+-- T(D1) ∪ .. ∪ T(Dn), the first entry having number base.
 abbrev pub translateFrom : (FunctionNumber → ℕ) → ℕ → List Function → Code
 translateFrom numbers base [] = []
-translateFrom numbers base (F ∷ Fs) =
-    entryTarget numbers base F ∷ (map (blockTarget numbers base (variables F)) (F .blocks) ++ translateFrom numbers (base + targets F) Fs)
+translateFrom numbers base (F ∷ Fs) = translateFunction numbers base F ++ translateFrom numbers (base + targets F) Fs
 
 -- T(P)
 unfoldable pub translate : Program → Code
