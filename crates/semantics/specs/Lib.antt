@@ -14,8 +14,10 @@ pub mod Statement
 -- Laws and theorems.
 pub mod ListLaws
 pub mod RunLaws
+pub mod SoundLaws
 pub mod TranslationLaws
 pub mod MatchingLaws
 pub mod SlotLaws
 pub mod Follow
 pub mod FollowCall
+pub mod Theorem
