@@ -7,6 +7,7 @@ pub mod WellFormed
 pub mod Code
 pub mod Controller
 pub mod SlotRules
+pub mod SlotStates
 pub mod Translation
 pub mod Extras
 pub mod Matching
@@ -21,3 +22,4 @@ pub mod SlotLaws
 pub mod Follow
 pub mod FollowCall
 pub mod Theorem
+pub mod SlotStateLaws
