@@ -23,3 +23,4 @@ pub mod Follow
 pub mod FollowCall
 pub mod Theorem
 pub mod SlotStateLaws
+pub mod TranslationRules
