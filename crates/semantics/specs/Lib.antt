@@ -24,3 +24,4 @@ pub mod FollowCall
 pub mod Theorem
 pub mod SlotStateLaws
 pub mod TranslationRules
+pub mod Cases
