@@ -1,7 +1,7 @@
 -- Figure 2: the bench machine, as document 01 states it ('How the bench moves').
 -- The figure's two stacks F and E are one list here, newest frame first: a frame keeps its caller's handler, and the frames that have one are E.
 use Prim.Native.Nat.{ℕ, zero, suc}
-use mathlib.Core.Bool.{Bool, cond}
+use mathlib.Core.Bool.{cond}
 use mathlib.Core.List.{List, [], _∷_, _++_}
 use mathlib.Core.Option.{Option, none, some}
 use lib.Dec.{leb}
@@ -9,7 +9,7 @@ use lib.IntN.{ℤ, pos}
 use lib.ListN.{length, getElem?, set, replicate}
 use Rattle.semantics.specs.Value.{minus, atMost}
 use Rattle.semantics.specs.Program.{FunctionNumber, Variable, Label, Handler, Block, constant, copy, difference, call, goto, return, branch, raise, Labelled, Function, Program, functionOf}
-use Rattle.semantics.specs.Run.{End, value, uncaught, Outcome, next, end, tooDeep, stuck, Result, run}
+use Rattle.semantics.specs.Run.{value, uncaught, Outcome, next, end, tooDeep, stuck, Result, run}
 
 -- A waiting frame: the caller's function, handler, next operation, variables and result variable.
 pub data Frame : Type 0 where

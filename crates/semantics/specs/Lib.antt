@@ -13,6 +13,7 @@ pub mod Extras
 pub mod Matching
 pub mod Statement
 -- Laws and theorems.
+pub mod ValueLaws
 pub mod ListLaws
 pub mod RunLaws
 pub mod SoundLaws

@@ -1,12 +1,12 @@
 -- Laws about lists, reading by index and `put`.
-use Prim.Native.Nat.{ℕ, zero, suc, _+_, _-_, _≤_, _<_}
+use Prim.Native.Nat.{ℕ, zero, suc, _+_, _<_}
 use native.Mathlib.Nat.{zero-add, suc-add, not-suc-le-zero, le-of-suc-le-suc}
 use native.Mathlib.Omega.{arith}
-use mathlib.Core.Path.{_≡_, refl, sym, ap, _∙_, subst}
+use mathlib.Core.Path.{_≡_, refl, ap, subst}
 use mathlib.Core.Logic.{_≢_}
 use mathlib.Core.List.{List, [], _∷_, _++_, map}
-use mathlib.Core.Option.{Option, none, some}
-use lib.ListN.{length, getElem?, getD, set, drop}
+use mathlib.Core.Option.{some}
+use lib.ListN.{length, getElem?, getD, set}
 use Rattle.semantics.specs.Controller.{put}
 use Rattle.semantics.specs.WellFormed.{All}
 

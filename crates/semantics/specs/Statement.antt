@@ -15,7 +15,7 @@ use Rattle.semantics.specs.Controller.{Control, doing, controller, targe
 use Rattle.semantics.specs.SlotRules.{KeepsSlotRules}
 use Rattle.semantics.specs.Translation.{slotOf, number, translate}
 use Rattle.semantics.specs.Extras.{extras}
-use Rattle.semantics.specs.Matching.{Holding, going, holding, HoldingsMatch, Matches}
+use Rattle.semantics.specs.Matching.{going, holding, HoldingsMatch, Matches}
 
 abbrev pub IsCall : Block → Type 0
 IsCall (constant x i b) = ⊥

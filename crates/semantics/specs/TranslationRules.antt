@@ -1,18 +1,16 @@
 -- The translation of a well-formed program keeps the slot rules.
 use Prim.Native.Nat.{ℕ, zero, suc, _+_, _≤_, _<_}
 use native.Mathlib.Omega.{arith}
-use native.Mathlib.Nat.{zero-add, add-zero, add-suc, suc-add, add-assoc, not-suc-le-zero, le-of-suc-le-suc}
+use native.Mathlib.Nat.{zero-add, add-zero, add-assoc, not-suc-le-zero, le-of-suc-le-suc}
 use mathlib.Core.Path.{_≡_, refl, sym, ap, _∙_, subst}
-use mathlib.Core.Logic.{_≢_}
-use mathlib.Core.List.{List, [], _∷_, _++_, map}
-use mathlib.Core.Option.{Option, none, some}
+use mathlib.Core.List.{List, [], _∷_, map}
+use mathlib.Core.Option.{some}
 use lib.ListN.{length, getElem?, getD, replicate, length-map, getD-replicate}
 use Rattle.semantics.specs.Program.{FunctionNumber, Variable, Label, Handler, Block, constant, copy, difference, call, goto, return, branch, raise, Labelled, Function, Program, variables, noFunction, functionOf}
-use Rattle.semantics.specs.Bench.{labelledAt}
 use Rattle.semantics.specs.WellFormed.{All, IsLabel, WellFormedBlock, WellFormedLabelled, WellFormedFunction, WellFormed}
-use Rattle.semantics.specs.Code.{Slot, Expr, jump, Target, Code}
-use Rattle.semantics.specs.Controller.{put, noTarget, targetOf}
-use Rattle.semantics.specs.SlotRules.{Kind, unboundKind, wholeKind, continuationKind, handlerKind, Kinds, kindAt, bindKind, IsBound, KeepsRules, entryKinds, KeepsSlotRules}
+use Rattle.semantics.specs.Code.{Slot, Expr, jump, Target}
+use Rattle.semantics.specs.Controller.{put, noTarget}
+use Rattle.semantics.specs.SlotRules.{unboundKind, wholeKind, continuationKind, handlerKind, Kinds, kindAt, bindKind, IsBound, KeepsRules, entryKinds, KeepsSlotRules}
 use Rattle.semantics.specs.Translation.{slotOf, slotsFrom, toLabel, code, bindZeros, entryTarget, blockTarget, targets, number, translateFunction, translateFrom, translate}
 use Rattle.semantics.specs.Statement.{TranslationKeepsRules}
 use Rattle.semantics.specs.ListLaws.{at-getD, at-below, getD-at, all-getD, all-append, all-mapped, put-same, put-other}
@@ -85,13 +83,14 @@ module _ (m v : ℕ) (fits : slotOf (suc v) < m) where
 module _ (m : ℕ) (P : Program) (W : WellFormed P) (small : All (λ F. slotOf (suc (variables F)) < m) P) where
   -- To the entry of function g.
   entry-rules : (g : FunctionNumber) (ks : Kinds) (k h : Slot) (ss : List Slot) → g < length P → IsBound m ks continuationKind k → IsBound m ks handlerKind h → length ss ≡ functionOf P g .params → All (IsBound m ks wholeKind) ss
-    → KeepsRules (translate P) m ks (jump (number P g) k h ss)
-  entry-rules g ks k h ss lg bk bh q a =
-      ( at-below (translate P) (number P g) (entryTarget (number P) (number P g) (functionOf P g)) (entry-at P g lg)
-      , bk
-      , bh
-      , q ∙ ap (λ (D : Target). D .params) (sym (getD-at (translate P) (number P g) (entryTarget (number P) (number P g) (functionOf P g)) noTarget (entry-at P g lg)))
-      , a )
+      → KeepsRules (translate P) m ks (jump (number P g) k h ss)
+  entry-rules g ks k h ss lg bk bh q a = (
+    at-below (translate P) (number P g) (entryTarget (number P) (number P g) (functionOf P g)) (entry-at P g lg),
+    bk,
+    bh,
+    q ∙ ap (λ (D : Target). D .params) (sym (getD-at (translate P) (number P g) (entryTarget (number P) (number P g) (functionOf P g)) noTarget (entry-at P g lg))),
+    a,
+  )
 
   module _ (f : FunctionNumber) (lf : f < length P) where
     F : Function
@@ -110,12 +109,13 @@ module _ (m : ℕ) (P : Program) (W : WellFormed P) (small : All (λ F. slotOf (
     label-rules (suc l) k =
         let B : Labelled = getD (F .blocks) l (record { handler = 0; block = raise }) in
         let e : getElem? (translate P) (number P f + suc l) ≡ some (blockTarget (number P) (number P f) (variables F) B) = block-at P f l B lf (at-getD (F .blocks) l (record { handler = 0; block = raise }) (k .1)) in
-        let one : 1 < m = low in
-        ( at-below (translate P) (number P f + suc l) (blockTarget (number P) (number P f) (variables F) B) e
-        , (omega arith, refl)
-        , (one, refl)
-        , count m (variables F) room (slotOf 0) (variables F) ∙ ap (λ (D : Target). D .params) (sym (getD-at (translate P) (number P f + suc l) (blockTarget (number P) (number P f) (variables F) B) noTarget e))
-        , variables-bound m (variables F) room 0 (variables F) (zero-add (variables F)) )
+        let one : 1 < m = low in (
+          at-below (translate P) (number P f + suc l) (blockTarget (number P) (number P f) (variables F) B) e,
+          (omega arith, refl),
+          (one, refl),
+          count m (variables F) room (slotOf 0) (variables F) ∙ ap (λ (D : Target). D .params) (sym (getD-at (translate P) (number P f + suc l) (blockTarget (number P) (number P f) (variables F) B) noTarget e)),
+          variables-bound m (variables F) room 0 (variables F) (zero-add (variables F)),
+        )
 
     -- A block under a handler.
     code-rules : (h : Handler) → h ≤ length (F .blocks) → (b : Block) → WellFormedBlock P (variables F) (length (F .blocks)) b → KeepsRules (translate P) m (entryKinds (variables F)) (code (number P) (number P f) (variables F) h b)
@@ -126,35 +126,39 @@ module _ (m : ℕ) (P : Program) (W : WellFormed P) (small : All (λ F. slotOf (
         (omega arith, subst (λ (ks : Kinds). KeepsRules (translate P) m ks (code (number P) (number P f) (variables F) h b)) (sym (bind-among (variables F) x (w .0))) (code-rules h lh b (w .1)))
     code-rules h lh (copy x y b) w =
         let r : slotOf (suc (variables F)) < m = room in
-        let lx : x < variables F = w .0 in
-        ( omega arith
-        , variable-bound m (variables F) room y (w .1)
-        , subst (λ (ks : Kinds). KeepsRules (translate P) m ks (code (number P) (number P f) (variables F) h b)) (sym (bind-among (variables F) x (w .0))) (code-rules h lh b (w .2)) )
+        let lx : x < variables F = w .0 in (
+          omega arith,
+          variable-bound m (variables F) room y (w .1),
+          subst (λ (ks : Kinds). KeepsRules (translate P) m ks (code (number P) (number P f) (variables F) h b)) (sym (bind-among (variables F) x (w .0))) (code-rules h lh b (w .2)),
+        )
     code-rules h lh (difference x y z b) w =
         let r : slotOf (suc (variables F)) < m = room in
-        let lx : x < variables F = w .0 in
-        ( omega arith
-        , variable-bound m (variables F) room y (w .1)
-        , variable-bound m (variables F) room z (w .2)
-        , subst (λ (ks : Kinds). KeepsRules (translate P) m ks (code (number P) (number P f) (variables F) h b)) (sym (bind-among (variables F) x (w .0))) (code-rules h lh b (w .3)) )
+        let lx : x < variables F = w .0 in (
+          omega arith,
+          variable-bound m (variables F) room y (w .1),
+          variable-bound m (variables F) room z (w .2),
+          subst (λ (ks : Kinds). KeepsRules (translate P) m ks (code (number P) (number P f) (variables F) h b)) (sym (bind-among (variables F) x (w .0))) (code-rules h lh b (w .3)),
+        )
     code-rules zero lh (call x g ys b) w =
         let r : slotOf (suc (variables F)) < m = room in
         let lx : x < variables F = w .0 in
-        let one : 1 < m = low in
-        ( omega arith
-        , omega arith
-        , entry-rules g (called m (variables F) room) (slotOf (variables F)) 1 (map slotOf ys) (w .1) (omega arith, called-continuation m (variables F) room) (one, refl) (length-map ys slotOf ∙ w .2) (arguments-bound m (variables F) room (called m (variables F) room) (called-wider m (variables F) room) ys (w .3))
-        , subst (λ (ks : Kinds). KeepsRules (translate P) m ks (code (number P) (number P f) (variables F) 0 b)) (sym (bind-among (variables F) x (w .0))) (code-rules 0 lh b (w .4)) )
+        let one : 1 < m = low in (
+          omega arith,
+          omega arith,
+          entry-rules g (called m (variables F) room) (slotOf (variables F)) 1 (map slotOf ys) (w .1) (omega arith, called-continuation m (variables F) room) (one, refl) (length-map ys slotOf ∙ w .2) (arguments-bound m (variables F) room (called m (variables F) room) (called-wider m (variables F) room) ys (w .3)),
+          subst (λ (ks : Kinds). KeepsRules (translate P) m ks (code (number P) (number P f) (variables F) 0 b)) (sym (bind-among (variables F) x (w .0))) (code-rules 0 lh b (w .4)),
+        )
     code-rules (suc l) lh (call x g ys b) w =
         let r : slotOf (suc (variables F)) < m = room in
-        let lx : x < variables F = w .0 in
-        ( omega arith
-        , omega arith
-        , r
-        , (λ (e : slotOf (variables F) ≡ slotOf (suc (variables F))). absurd (omega arith))
-        , entry-rules g (guarded m (variables F) room) (slotOf (variables F)) (slotOf (suc (variables F))) (map slotOf ys) (w .1) (omega arith, guarded-continuation m (variables F) room) (r, guarded-handler m (variables F) room) (length-map ys slotOf ∙ w .2) (arguments-bound m (variables F) room (guarded m (variables F) room) (guarded-wider m (variables F) room) ys (w .3))
-        , label-rules (suc l) (omega arith, lh)
-        , subst (λ (ks : Kinds). KeepsRules (translate P) m ks (code (number P) (number P f) (variables F) (suc l) b)) (sym (bind-among (variables F) x (w .0))) (code-rules (suc l) lh b (w .4)) )
+        let lx : x < variables F = w .0 in (
+          omega arith,
+          omega arith,
+          r,
+          (λ (e : slotOf (variables F) ≡ slotOf (suc (variables F))). absurd (omega arith)),
+          entry-rules g (guarded m (variables F) room) (slotOf (variables F)) (slotOf (suc (variables F))) (map slotOf ys) (w .1) (omega arith, guarded-continuation m (variables F) room) (r, guarded-handler m (variables F) room) (length-map ys slotOf ∙ w .2) (arguments-bound m (variables F) room (guarded m (variables F) room) (guarded-wider m (variables F) room) ys (w .3)),
+          label-rules (suc l) (omega arith, lh),
+          subst (λ (ks : Kinds). KeepsRules (translate P) m ks (code (number P) (number P f) (variables F) (suc l) b)) (sym (bind-among (variables F) x (w .0))) (code-rules (suc l) lh b (w .4)),
+        )
     code-rules h lh (goto l) w = label-rules l w
     code-rules h lh (return x) w = let one : 1 < m = low in ((omega arith, refl), variable-bound m (variables F) room x w)
     code-rules h lh (branch y z l k) w = (variable-bound m (variables F) room y (w .0), variable-bound m (variables F) room z (w .1), label-rules l (w .2), label-rules k (w .3))
@@ -165,17 +169,19 @@ module _ (m : ℕ) (P : Program) (W : WellFormed P) (small : All (λ F. slotOf (
     zeros-rules : (p n : ℕ) (e : Expr) → p + n ≡ variables F → KeepsRules (translate P) m (entryKinds (variables F)) e → KeepsRules (translate P) m (entryKinds p) (bindZeros (slotOf p) n e)
     zeros-rules p zero e q k = subst (λ (i : ℕ). KeepsRules (translate P) m (entryKinds i) e) (sym q ∙ add-zero p) k
     zeros-rules p (suc n) e q k =
-        let r : slotOf (suc (variables F)) < m = room in
-        ( omega arith
-        , subst (λ (ks : Kinds). KeepsRules (translate P) m ks (bindZeros (slotOf (suc p)) n e)) (sym (ap (λ (l : Kinds). continuationKind ∷ handlerKind ∷ l) (put-after p))) (zeros-rules (suc p) n e (omega arith) k) )
+        let r : slotOf (suc (variables F)) < m = room in (
+          omega arith,
+          subst (λ (ks : Kinds). KeepsRules (translate P) m ks (bindZeros (slotOf (suc p)) n e)) (sym (ap (λ (l : Kinds). continuationKind ∷ handlerKind ∷ l) (put-after p))) (zeros-rules (suc p) n e (omega arith) k),
+        )
 
     function-rules : All (λ D. KeepsRules (translate P) m (entryKinds (D .params)) (D .body)) (translateFunction (number P) (number P f) F)
     unfolding F
     function-rules =
-        let w : WellFormedFunction P F = all-getD (WellFormedFunction P) P f noFunction W lf in
-        ( zeros-rules (F .params) (F .locals) (code (number P) (number P f) (variables F) 0 (F .entry)) refl (code-rules 0 (omega arith) (F .entry) (w .entry))
-        , all-mapped (λ (D : Target). KeepsRules (translate P) m (entryKinds (D .params)) (D .body)) (WellFormedLabelled P (variables F) (length (F .blocks))) (blockTarget (number P) (number P f) (variables F)) (F .blocks)
-            (λ B b. code-rules (B .handler) (b .handler) (B .block) (b .block)) (w .blocks) )
+        let w : WellFormedFunction P F = all-getD (WellFormedFunction P) P f noFunction W lf in (
+          zeros-rules (F .params) (F .locals) (code (number P) (number P f) (variables F) 0 (F .entry)) refl (code-rules 0 (omega arith) (F .entry) (w .entry)),
+          all-mapped (λ (D : Target). KeepsRules (translate P) m (entryKinds (D .params)) (D .body)) (WellFormedLabelled P (variables F) (length (F .blocks))) (blockTarget (number P) (number P f) (variables F)) (F .blocks)
+              (λ B b. code-rules (B .handler) (b .handler) (B .block) (b .block)) (w .blocks),
+        )
 
   number-suc : (Fs : Program) (f : FunctionNumber) → f < length Fs → number Fs (suc f) ≡ number Fs f + targets (functionOf Fs f)
   number-suc [] f h = absurd (not-suc-le-zero h)
@@ -191,9 +197,9 @@ module _ (m : ℕ) (P : Program) (W : WellFormed P) (small : All (λ F. slotOf (
       let lf : f < length P = at-below P f G e in
       let q : functionOf P f ≡ G = getD-at P f G noFunction e in
       all-append (λ (D : Target). KeepsRules (translate P) m (entryKinds (D .params)) (D .body)) (translateFunction (number P) (number P f) G) (translateFrom (number P) (number P f + targets G) Fs)
-        (subst (λ (H : Function). All (λ (D : Target). KeepsRules (translate P) m (entryKinds (D .params)) (D .body)) (translateFunction (number P) (number P f) H)) q (function-rules f lf))
-        (subst (λ (n : ℕ). All (λ (D : Target). KeepsRules (translate P) m (entryKinds (D .params)) (D .body)) (translateFrom (number P) n Fs)) (number-suc P f lf ∙ ap (λ (H : Function). number P f + targets H) q)
-          (rules-from Fs (suc f) (λ j l. ap (λ (i : ℕ). getElem? P i) (shifted f j) ∙ there (suc j) (omega arith))))
+      (subst (λ (H : Function). All (λ (D : Target). KeepsRules (translate P) m (entryKinds (D .params)) (D .body)) (translateFunction (number P) (number P f) H)) q (function-rules f lf))
+      (subst (λ (n : ℕ). All (λ (D : Target). KeepsRules (translate P) m (entryKinds (D .params)) (D .body)) (translateFrom (number P) n Fs)) (number-suc P f lf ∙ ap (λ (H : Function). number P f + targets H) q)
+      (rules-from Fs (suc f) (λ j l. ap (λ (i : ℕ). getElem? P i) (shifted f j) ∙ there (suc j) (omega arith))))
     where
       shifted : (i j : ℕ) → suc i + j ≡ i + suc j
       shifted i j = omega arith

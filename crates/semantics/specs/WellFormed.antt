@@ -1,11 +1,11 @@
 -- Figures 3 and 4: well-formed programs and states. Names are numbers here, so "distinct" holds of itself, and a name is declared when
 -- it is below the count. With document 01's addition that a call has as many arguments as its callee has parameters.
-use Prim.Native.Nat.{ℕ, suc, _≤_, _<_}
+use Prim.Native.Nat.{ℕ, _≤_, _<_}
 use mathlib.Core.Path.{_≡_}
 use mathlib.Core.List.{List, [], _∷_}
 use lib.IntN.{ℤ}
 use lib.ListN.{length}
-use Rattle.semantics.specs.Program.{FunctionNumber, Variable, Label, Handler, Block, constant, copy, difference, call, goto, return, branch, raise, Labelled, Function, Program, variables, functionOf}
+use Rattle.semantics.specs.Program.{FunctionNumber, Label, Handler, Block, constant, copy, difference, call, goto, return, branch, raise, Labelled, Function, Program, variables, functionOf}
 use Rattle.semantics.specs.Bench.{Frame, frame, State, state}
 
 -- Q of every element.
