@@ -1,0 +1,33 @@
+// Signed 32-bit values: the wrapped difference, and the comparison of the values themselves.
+ghost use mathlib.Core.Path.{_≡_};
+ghost use Prim.Native.Nat.{_<_};
+ghost use lib.Signed.{mag};
+ghost use Rattle.semantics.specs.Value.{wrapped, minus, atMost};
+
+// A difference of two values, wrapped modulo 2^32 back into the range.
+fn narrowed(d: i64) -> i32
+    requires { ⌜ mag d < 4294967296 ⌝ }
+    ensures { λ r. ⌜ r ≡ wrapped d ⌝ }
+{
+    if d < -2147483648 {
+        return (d + 4294967296) as i32;
+    }
+    if 2147483647 < d {
+        return (d - 4294967296) as i32;
+    }
+    d as i32
+}
+
+// The difference of two values; outside the range it wraps modulo 2^32 back into it.
+pub fn wrapped_difference(y: i32, z: i32) -> i32
+    ensures { λ r. ⌜ r ≡ minus y z ⌝ }
+{
+    narrowed((y as i64) - (z as i64))
+}
+
+// Whether y ≤ z, of the signed values themselves.
+pub fn at_most(y: i32, z: i32) -> bool
+    ensures { λ r. ⌜ r ≡ atMost y z ⌝ }
+{
+    y <= z
+}
