@@ -1,0 +1,5 @@
+-- Definitions: Lay, Frame. Laws: the others.
+pub mod Lay
+pub mod Frame
+pub mod LayLaws
+pub mod FrameLaws
