@@ -1,5 +1,5 @@
 -- Theorems 1 and 2 for a call; then for every operation.
-use Prim.Native.Nat.{ℕ, zero, suc, _+_, _<_}
+use Prim.Native.Nat.{ℕ, zero, suc, _+_, _<_, _≤_}
 use native.Mathlib.Omega.{arith}
 use mathlib.Core.Path.{_≡_, refl, sym, ap, _∙_, subst}
 use mathlib.Core.Bool.{Bool, true, false, cond}
@@ -18,11 +18,12 @@ use Rattle.semantics.specs.Code.{Slot, Expr, jump, Target}
 use Rattle.semantics.specs.Controller.{unbound, whole, continuation, handler, Environment, heldAt, put, bind, asContinuation, asHandler, wholesOf, Record, made, doing, parameters, controlStep}
 use Rattle.semantics.specs.Translation.{slotOf, code, bindZeros, entryTarget, number}
 use Rattle.semantics.specs.Matching.{newestGuarded, bodyLeft, handlerBody}
+use Rattle.semantics.specs.Statement.{waiting}
 use Rattle.semantics.specs.ListLaws.{at-getD, put-same, put-other, put-end, map-append-one}
 use Rattle.semantics.specs.TranslationLaws.{entry-at}
 use Rattle.semantics.specs.MatchingLaws.{slotsOf, recordsOf, matching, length-records, matching-matches}
 use Rattle.semantics.specs.SlotLaws.{given-some, valueOf, held-variable, values-are, wholes-are}
-use Rattle.semantics.specs.Follow.{ControlGoes, Follows, along, onward, below, function-wellFormed, follow-constant, follow-copy, follow-difference, follow-goto, follow-branch, follow-return, follow-raise}
+use Rattle.semantics.specs.Follow.{ControlGoes, Followed, Follows, along, onward, below, function-wellFormed, follow-constant, follow-copy, follow-difference, follow-goto, follow-branch, follow-return, follow-raise}
 
 -- ── A function's locals ─────────────────────────────────────────────────────────────────────────
 
@@ -199,3 +200,9 @@ follow P W d (state f h (goto l) vs fs) w = follow-goto P W d f vs fs h l (w .0)
 follow P W d (state f h (return x) vs fs) w = follow-return P d f h x vs fs (w .0) (w .1)
 follow P W d (state f h (branch y z l m) vs fs) w = follow-branch P W d f vs fs h y z l m (w .0) (w .1)
 follow P W d (state f h raise vs fs) w = follow-raise P W d f h vs fs (w .0) (w .1)
+
+-- Theorem 1 for one step, as the machines cite it.
+pub step-wellFormed : (P : Program) → WellFormed P → (d : ℕ) (S S′ : State) → WellFormedState P S → step P d S ≡ next S′
+    → WellFormedState P S′ × (waiting S ≤ d → waiting S′ ≤ d)
+step-wellFormed P W d S S′ w e =
+    let F : Followed P d S S′ = subst (λ (o : Outcome State). Follows P d S o) e (follow P W d S w) in (F .wellFormed, F .limit)

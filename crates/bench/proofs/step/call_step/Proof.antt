@@ -1,0 +1,96 @@
+-- `bench::step::call_step` meets its contract.
+use native.Mathlib.Omega.{arith}
+use mathlib.Core.Path.{refl}
+use Rattle.bench.specs.LoadedLaws.{call-safe, call-push, call-arguments, call-clear, call-done}
+use borrow.Author.Needs.{needs}
+use Rattle.bench.proofs.step.call_step.Statement.{statement}
+use Rattle.bench.proofs.step.call_step.Tie as tie
+
+variables-requires : tie.Need-variables-requires
+variables-requires c κs = call-safe (c .before .pre .0) (c .before .pre .1 .0) (c .before .pre .1 .1 .0) .own
+
+element-copy-out-byte-number : tie.Need-element-copy-out-byte-number
+element-copy-out-byte-number c = call-safe (c .before .before .pre .0) (c .before .before .pre .1 .0) (c .before .before .pre .1 .1 .0) .function
+
+byte-number-requires : tie.Need-byte-number-requires
+byte-number-requires c κs = search needs
+
+element-copy-out-byte-number-2 : tie.Need-element-copy-out-byte-number-2
+element-copy-out-byte-number-2 c = call-safe (c .before .before .before .before .pre .0) (c .before .before .before .before .pre .1 .0) (c .before .before .before .before .pre .1 .1 .0) .function
+
+byte-number-requires-2 : tie.Need-byte-number-requires-2
+byte-number-requires-2 c κs = search needs
+
+mul-base : tie.Need-mul-base
+mul-base c = search needs
+
+add-base : tie.Need-add-base
+add-base c = search needs
+
+add-from : tie.Need-add-from
+add-from c = omega (arith, call-safe (c .before .before .before .before .before .before .before .pre .0) (c .before .before .before .before .before .before .before .pre .1 .0) (c .before .before .before .before .before .before .before .pre .1 .1 .0) .place)
+
+add-last : tie.Need-add-last
+add-last c = search needs
+
+mul-entry : tie.Need-mul-entry
+mul-entry c = search needs
+
+mul-offset-number : tie.Need-mul-offset-number
+mul-offset-number c = search needs
+
+element-copy-out-offset-number : tie.Need-element-copy-out-offset-number
+element-copy-out-offset-number c = call-safe (c .before .before .before .before .before .before .before .pre .0) (c .before .before .before .before .before .before .before .pre .1 .0) (c .before .before .before .before .before .before .before .pre .1 .1 .0) .table
+
+offset-number-requires : tie.Need-offset-number-requires
+offset-number-requires c κs = search needs
+
+add-waiting : tie.Need-add-waiting
+add-waiting c = search needs
+
+add-added : tie.Need-add-added
+add-added c = search needs
+
+add-extras : tie.Need-add-extras
+add-extras c = search needs
+
+push-requires : tie.Need-push-requires
+push-requires c κs = call-push (c .before .before .before .before .before .before .before .before .before .before .before .before .before .pre .0) (c .before .before .before .before .before .before .before .before .before .before .before .before .before .pre .1 .0) (c .before .before .before .before .before .before .before .before .before .before .before .before .before .pre .1 .1 .0) (c .before .before .before .before .before .before .before .before .before .before .before .variables .ensures) (c .before .before .before .before .before .before .before .before .before .before .before .before .before .pre .1 .1 .1 .1)
+
+arguments-requires : tie.Need-arguments-requires
+arguments-requires c κs = call-arguments (c .before .before .before .before .before .before .before .before .before .before .before .before .before .before .before .before .before .pre .0) (c .before .before .before .before .before .before .before .before .before .before .before .before .before .before .before .before .before .pre .1 .0) (c .before .before .before .before .before .before .before .before .before .before .before .before .before .before .before .before .before .pre .1 .1 .0) (c .before .before .before .before .before .before .before .before .before .before .before .before .before .before .before .variables .ensures) (c .before .before .before .before .before .before .before .before .before .before .before .before .before .byte-number .ensures .0) (c .before .before .before .before .before .before .before .before .before .before .before .before .before .before .before .before .before .pre .1 .1 .1 .1) (c .before .before .before .push .ensures)
+
+clear-requires : tie.Need-clear-requires
+clear-requires c κs = call-clear (c .before .before .before .before .before .before .before .before .before .before .before .before .before .before .before .before .before .before .before .pre .0) (c .before .before .before .before .before .before .before .before .before .before .before .before .before .before .before .before .before .before .before .pre .1 .0) (c .before .before .before .before .before .before .before .before .before .before .before .before .before .before .before .before .before .before .before .pre .1 .1 .0) _ (c .before .before .before .before .before .before .before .before .before .before .before .before .before .before .before .byte-number .ensures .0) (c .before .before .before .before .before .before .before .before .before .before .before .before .before .byte-number2 .ensures .0) (c .before .arguments .ensures)
+
+same-length : tie.Need-same-length
+same-length c = search needs
+
+returns : tie.Need-returns
+returns c = call-done (c .before .before .before .before .before .before .before .before .before .before .before .before .before .before .before .before .before .before .before .before .pre .0) (c .before .before .before .before .before .before .before .before .before .before .before .before .before .before .before .before .before .before .before .before .pre .1 .0) (c .before .before .before .before .before .before .before .before .before .before .before .before .before .before .before .before .before .before .before .before .pre .1 .1 .0) (c .before .before .before .before .before .before .before .before .before .before .before .before .before .before .before .before .before .before .before .before .pre .1 .1 .1 .1) (c .before .before .before .before .before .before .before .before .before .before .before .before .before .before .before .before .before .before .variables .ensures) (c .before .before .before .before .before .before .push .ensures) (c .before .before .before .before .before .before .before .before .before .before .before .before .before .before .before .before .byte-number .ensures .0) (c .before .before .before .before .before .before .before .before .before .before .before .before .before .before .byte-number2 .ensures .0) (c .before .before .arguments .ensures) (c .clear .ensures) (c .before .before .before .before .before .before .before .before .before .before .before .offset-number .ensures) refl
+
+pub call-step-spec : {M : Type 1} → statement M
+call-step-spec =
+    tie.close
+    (tie.spec
+    variables-requires
+    element-copy-out-byte-number
+    byte-number-requires
+    element-copy-out-byte-number-2
+    byte-number-requires-2
+    mul-base
+    add-base
+    add-from
+    add-last
+    mul-entry
+    mul-offset-number
+    element-copy-out-offset-number
+    offset-number-requires
+    add-waiting
+    add-added
+    add-extras
+    push-requires
+    arguments-requires
+    clear-requires
+    same-length
+    returns)

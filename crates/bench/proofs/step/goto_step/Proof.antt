@@ -1,0 +1,13 @@
+-- `bench::step::goto_step` meets its contract.
+use Rattle.bench.specs.LoadedLaws.{goto-safe, goto-done}
+use Rattle.bench.proofs.step.goto_step.Statement.{statement}
+use Rattle.bench.proofs.step.goto_step.Tie as tie
+
+entered-requires : tie.Need-entered-requires
+entered-requires c κs = goto-safe (c .before .pre .0) (c .before .pre .1 .0) (c .before .pre .1 .1)
+
+returns : tie.Need-returns
+returns c = goto-done (c .before .before .pre .0) (c .before .before .pre .1 .0) (c .before .before .pre .1 .1) (c .entered .ensures)
+
+pub goto-step-spec : {M : Type 1} → statement M
+goto-step-spec = tie.close (tie.spec entered-requires returns)

@@ -1,0 +1,62 @@
+-- `bench::step::return_step` meets its contract.
+use native.Mathlib.Omega.{arith}
+use mathlib.Core.Path.{refl}
+use mir.Facts.{toZ-ofZ}
+use mir.Syntax.{w32}
+use Rattle.bench.specs.LoadedLaws.{return-safe, return-value, return-frame, last-ready, last-below, head-small, frame-safe}
+use borrow.Author.Needs.{needs}
+use Rattle.bench.proofs.step.return_step.Statement.{statement}
+use Rattle.bench.proofs.step.return_step.Tie as tie
+
+mul-v : tie.Need-mul-v
+mul-v c = search needs
+
+element-copy-out-v : tie.Need-element-copy-out-v
+element-copy-out-v c = return-safe (c .before .pre .0) (c .before .pre .1 .0) (c .before .pre .1 .1)
+
+returns : tie.Need-returns
+returns c = return-value (c .before .before .before .pre .0) (c .before .before .before .pre .1 .0) (c .before .before .before .pre .1 .1) (toZ-ofZ {w = w32} (record { sfits = c .before .v .given })) (c .if1 .taken)
+
+sub-d : tie.Need-sub-d
+sub-d c = search needs
+
+head-at-requires : tie.Need-head-at-requires
+head-at-requires c κs = last-ready (c .before .before .before .pre .0) (c .before .before .before .pre .1 .0) (c .if1 .left)
+
+variables-requires : tie.Need-variables-requires
+variables-requires c κs = head-small (c .before .before .before .before .pre .0) (c .before .before .before .before .pre .1 .0) (last-below (c .before .before .before .before .pre .0) (c .before .before .before .before .pre .1 .0) (c .before .if1 .left)) (c .head-at .ensures)
+
+mul-from : tie.Need-mul-from
+mul-from c = search needs
+
+add-from : tie.Need-add-from
+add-from c = search needs
+
+copy-requires : tie.Need-copy-requires
+copy-requires c κs = let F = frame-safe (c .before .before .before .before .before .before .pre .0) (c .before .before .before .before .before .before .pre .1 .0) (last-below (c .before .before .before .before .before .before .pre .0) (c .before .before .before .before .before .before .pre .1 .0) (c .before .before .before .if1 .left)) (c .before .before .head-at .ensures) (c .before .variables .ensures) in (F .there, omega (arith, F .few, F .long))
+
+mul-v-2 : tie.Need-mul-v-2
+mul-v-2 c = let F = frame-safe (c .before .before .before .before .before .before .before .pre .0) (c .before .before .before .before .before .before .before .pre .1 .0) (last-below (c .before .before .before .before .before .before .before .pre .0) (c .before .before .before .before .before .before .before .pre .1 .0) (c .before .before .before .before .if1 .left)) (c .before .before .before .head-at .ensures) (c .before .before .variables .ensures) in omega (arith, F .result)
+
+element-set-from-v : tie.Need-element-set-from-v
+element-set-from-v c = let F = frame-safe (c .before .before .before .before .before .before .before .pre .0) (c .before .before .before .before .before .before .before .pre .1 .0) (last-below (c .before .before .before .before .before .before .before .pre .0) (c .before .before .before .before .before .before .before .pre .1 .0) (c .before .before .before .before .if1 .left)) (c .before .before .before .head-at .ensures) (c .before .before .variables .ensures) in F .result
+
+returns-2 : tie.Need-returns-2
+returns-2 c = return-frame (c .before .before .before .before .before .before .before .pre .0) (c .before .before .before .before .before .before .before .pre .1 .0) (c .before .before .before .before .before .before .before .pre .1 .1) (toZ-ofZ {w = w32} (record { sfits = c .before .before .before .before .before .v .given })) refl (c .before .before .before .before .if1 .left) (c .before .before .before .head-at .ensures) (c .before .before .variables .ensures) (c .copy .ensures)
+
+pub return-step-spec : {M : Type 1} → statement M
+return-step-spec =
+    tie.close
+    (tie.spec
+    mul-v
+    element-copy-out-v
+    returns
+    sub-d
+    head-at-requires
+    variables-requires
+    mul-from
+    add-from
+    copy-requires
+    mul-v-2
+    element-set-from-v
+    returns-2)

@@ -1,0 +1,54 @@
+-- The laws of the operations that use no table, from what their functions are given.
+use Prim.Native.Nat.{ℕ, _<_}
+use mathlib.Core.Path.{_≡_, sym, ap, subst, _∙_}
+use mathlib.Core.List.{List}
+use lib.IntN.{ℤ, pos}
+use lib.ListN.{getD, set}
+use Rattle.semantics.specs.Value.{minus}
+use Rattle.procedure_file.specs.declared.operation.Operation.the-variants.{Constant, Copy, Difference, Refused}
+use Rattle.procedure_file.specs.declared.operation.Operation.{Operation}
+use Rattle.parsing.specs.declared.Refusal.{Refusal}
+use Rattle.procedure_file.specs.Operation.{operationAt}
+use Rattle.bench.specs.declared.step.Regs.{Regs}
+use Rattle.bench.specs.declared.step.Step.the-variants.{Next}
+use Rattle.procedure_file.specs.Facts.{Stands}
+use Rattle.bench.specs.FileFacts.{Loaded, Running}
+use Rattle.bench.specs.Machine.{Held, Done}
+use Rattle.bench.specs.StandsLaws.{GoesOn, goes-on}
+use Rattle.bench.specs.StepLaws
+
+module _ {s : List ℕ} {limit : ℕ} {r : Regs} {vs words : List ℤ} (R : Running s) (H : Held s limit r vs words) where
+  abbrev pub on : ℕ → Regs
+  on n = record { function = r .function; handler = r .handler; at = n; waiting = r .waiting; extras = r .extras }
+
+  pub constant-safe : {x n : ℕ} {i : ℤ} → operationAt s (r .at) ≡ Constant x i n → x < 32
+  constant-safe {x} {n} {i} e = StepLaws.constant-safe s (R .starts) (R .handlers) (R .params) (R .locals) (R .loaded) limit r vs words H x n i e
+
+  pub constant-done : {x n : ℕ} {i v : ℤ} {q : Regs} → operationAt s (r .at) ≡ Constant x i n → v ≡ i → q ≡ on n → Done s limit r vs words (Next q) (set vs x v) words
+  constant-done {x} {n} {i} {v} {q} e k eq =
+      subst (λ (p : Regs). Done s limit r vs words (Next p) (set vs x v) words) (sym eq) (StepLaws.constant-done s (R .starts) (R .handlers) (R .params) (R .locals) (R .loaded) limit r vs words H x n i v e k)
+
+  pub copy-safe : {x y n : ℕ} → operationAt s (r .at) ≡ Copy x y n → (x < 32) × (y < 32)
+  copy-safe {x} {y} {n} e = StepLaws.copy-safe s (R .starts) (R .handlers) (R .params) (R .locals) (R .loaded) limit r vs words H x y n e
+
+  pub copy-done : {x y n : ℕ} {v : ℤ} {q : Regs} → operationAt s (r .at) ≡ Copy x y n → v ≡ getD vs y (pos 0) → q ≡ on n → Done s limit r vs words (Next q) (set vs x v) words
+  copy-done {x} {y} {n} {v} {q} e k eq =
+      subst (λ (p : Regs). Done s limit r vs words (Next p) (set vs x v) words) (sym eq) (StepLaws.copy-done s (R .starts) (R .handlers) (R .params) (R .locals) (R .loaded) limit r vs words H x y n v e k)
+
+  pub difference-safe : {x y z n : ℕ} → operationAt s (r .at) ≡ Difference x y z n → (x < 32) × (y < 32) × (z < 32)
+  difference-safe {x} {y} {z} {n} e = StepLaws.difference-safe s (R .starts) (R .handlers) (R .params) (R .locals) (R .loaded) limit r vs words H x y z n e
+
+  pub difference-done : {x y z n : ℕ} {v : ℤ} {q : Regs} → operationAt s (r .at) ≡ Difference x y z n → v ≡ minus (getD vs y (pos 0)) (getD vs z (pos 0)) → q ≡ on n → Done s limit r vs words (Next q) (set vs x v) words
+  difference-done {x} {y} {z} {n} {v} {q} e k eq =
+      subst (λ (p : Regs). Done s limit r vs words (Next p) (set vs x v) words) (sym eq) (StepLaws.difference-done s (R .starts) (R .handlers) (R .params) (R .locals) (R .loaded) limit r vs words H x y z n v e k)
+
+pub running : {s starts handlers params locals : List ℕ} → Loaded s starts handlers params locals → Running s
+running {starts = starts} {handlers = handlers} {params = params} {locals = locals} L = record { starts = starts; handlers = handlers; params = params; locals = locals; loaded = L }
+
+-- No operation is refused where the machine stands.
+pub no-refusal : {s : List ℕ} {limit : ℕ} {r : Regs} {vs words : List ℤ} {o : Operation} {e : Refusal} {A : Type 0} → Running s → Held s limit r vs words → o ≡ operationAt s (r .at) → o ≡ Refused e → A
+no-refusal {s} {r = r} R H p q = absurd (subst (λ (x : Operation). GoesOn s (r .function) x) (sym p ∙ q) (goes-on (R .loaded .facts) (H .here)))
+
+-- A value that went through a word.
+pub constant-as : {o : Operation} {x n : ℕ} {i v : ℤ} → o ≡ Constant x i n → v ≡ i → o ≡ Constant x v n
+constant-as {x = x} {n = n} e q = e ∙ ap (λ (z : ℤ). Constant x z n) (sym q)

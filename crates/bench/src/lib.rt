@@ -1,0 +1,2 @@
+// The bench machine.
+pub mod step;

@@ -1,0 +1,56 @@
+-- The fields that files of both kinds share (document 01, 'What is turned down'), with the refusals 1 to 5.
+use Prim.Native.Nat.{ℕ, _+_, _*_}
+use mathlib.Core.Bool.{Bool, cond}
+use mathlib.Core.List.{List, [], _∷_}
+use lib.Dec.{leb, ltb, eqb}
+use lib.IntN.{ℤ}
+use lib.ListN.{length, getD}
+use mir.Syntax.{w32}
+use mir.Val.{toZ}
+use Rattle.parsing.specs.declared.Refusal.{Refusal}
+use Rattle.parsing.specs.declared.Count.{Count}
+use Rattle.parsing.specs.declared.Count.the-variants.{Is, Outside}
+use Rattle.parsing.specs.Parser.{refusal, Parsed, read, refuse, Parser, andThen}
+
+-- "3 file ends early (place: its length)."
+abbrev pub cut : List ℕ → Refusal
+cut s = refusal 3 (length s)
+
+abbrev pub byte : Parser ℕ
+byte s at = cond (ltb at (length s)) (read (getD s at 0) (at + 1)) (refuse (cut s))
+
+-- "Mark bytes are judged one by one": "1 wrong mark byte".
+abbrev pub marked : List ℕ → Parser (Unit {0})
+marked [] s at = read tt at
+marked (m ∷ ms) s at =
+    cond (ltb at (length s)) (cond (eqb (getD s at 0) m) (marked ms s (at + 1)) (refuse (refusal 1 at))) (refuse (cut s))
+
+-- "version (16 bits, 1)", judged once it is whole: "2 version".
+unfoldable pub version : Parser (Unit {0})
+version s at =
+    cond (leb (at + 2) (length s))
+    (cond (eqb (getD s at 0 + 256 * getD s (at + 1) 0) 1) (read tt (at + 2)) (refuse (refusal 2 at)))
+    (refuse (cut s))
+
+-- "5 count .. outside its range".
+unfoldable pub count : ℕ → ℕ → Parser ℕ
+count low high s at =
+    andThen (byte s at)
+    (λ n next. cond (leb low n) (cond (leb n high) (read n next) (refuse (refusal 5 at))) (refuse (refusal 5 at)))
+
+-- What the function that reads a count answers.
+abbrev pub counted : Parsed ℕ → Count
+counted (read n next) = Is n
+counted (refuse r) = Outside r
+
+-- "4 bytes left over."
+unfoldable pub ended : Parser (Unit {0})
+ended s at = cond (ltb at (length s)) (refuse (refusal 4 at)) (read tt at)
+
+-- "4-byte signed value", "the low byte first".
+unfoldable pub valueOf : ℕ → ℕ → ℕ → ℕ → ℤ
+valueOf b0 b1 b2 b3 = toZ w32 (b0 + 256 * b1 + 65536 * b2 + 16777216 * b3)
+
+-- The signed value whose first byte stands at an offset.
+abbrev pub valueAt : List ℕ → ℕ → ℤ
+valueAt s at = valueOf (getD s at 0) (getD s (at + 1) 0) (getD s (at + 2) 0) (getD s (at + 3) 0)

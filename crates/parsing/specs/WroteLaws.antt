@@ -1,0 +1,118 @@
+-- What was read is what was written: the bytes from an offset on are the writing of what was read, and what is left.
+use Prim.Native.Nat.{ℕ, zero, suc, _+_, _*_, _≤_, _<_}
+use mathlib.Core.Path.{_≡_, refl, sym, ap, _∙_}
+use mathlib.Core.Bool.{Bool, true, false, cond}
+use mathlib.Core.List.{List, [], _∷_, _++_, append-assoc}
+use native.Mathlib.Omega.{arith}
+use native.Mathlib.Numerals.{add-one}
+use native.Mathlib.Nat.{add-zero}
+use borrow.Author.Tests.{ltb-true, ltb-false, leb-true, eqb-true}
+use lib.Dec.{leb, ltb, eqb}
+use lib.ListN.{length, getD, take, drop, length-append}
+use lib.Seq.{drop-cons}
+use Rattle.parsing.specs.declared.Refusal.{Refusal}
+use Rattle.parsing.specs.Parser.{refusal, Parsed, read, refuse, Parser, joined}
+use Rattle.parsing.specs.Fields.{cut, byte, marked, version, ended}
+use Rattle.parsing.specs.ParserLaws.{ReadMany, none, one, ReadByte, read-byte}
+
+-- The bytes w stand from `at` on, up to `next`.
+pub record Wrote (s : List ℕ) (at next : ℕ) (w : List ℕ) : Type 0 where
+  pub stands : drop at s ≡ w ++ drop next s
+  pub past : next ≡ at + length w
+
+module _ (s : List ℕ) where
+  pub wrote-none : (at : ℕ) → Wrote s at at []
+  wrote-none at = record { stands = refl; past = omega arith }
+
+  pub wrote-join : {at middle next : ℕ} {v w : List ℕ} → Wrote s at middle v → Wrote s middle next w → Wrote s at next (v ++ w)
+  wrote-join {at} {middle} {next} {v} {w} a b =
+      record {
+        stands = a .stands ∙ ap (λ (l : List ℕ). v ++ l) (b .stands) ∙ sym (append-assoc v w (drop next s));
+        past = omega (arith, a .past, b .past, length-append v w);
+      }
+
+  pub wrote-byte : (at : ℕ) → at < length s → Wrote s at (at + 1) (getD s at 0 ∷ [])
+  wrote-byte at h = record { stands = rw (add-one, drop-cons s at 0 h); past = refl }
+
+  -- One byte more in front.
+  pub wrote-cons : {at next : ℕ} {w : List ℕ} → at < length s → Wrote s (at + 1) next w → Wrote s at next (getD s at 0 ∷ w)
+  wrote-cons {at} h a = wrote-join (wrote-byte at h) a
+
+  pub wrote-marked : (ms : List ℕ) (at : ℕ) {u : Unit {0}} {next : ℕ} → marked ms s at ≡ read u next → Wrote s at next ms
+  wrote-marked [] at {u} {next} e = let p : at ≡ next = cc in rw (← p) (wrote-none at)
+  wrote-marked (m ∷ ms) at {u} {next} e =
+      go (ltb at (length s)) (eqb (getD s at 0) m) refl refl (λ w. wrote-marked ms (at + 1) w) e
+    where
+      go : (t v : Bool) → ltb at (length s) ≡ t → eqb (getD s at 0) m ≡ v
+          → (marked ms s (at + 1) ≡ read u next → Wrote s (at + 1) next ms)
+          → cond t (cond v (marked ms s (at + 1)) (refuse (refusal 1 at))) (refuse (cut s)) ≡ read u next → Wrote s at next (m ∷ ms)
+      go true true i j f w =
+          let q = eqb-true (getD s at 0) m j in
+          rw (← q) (wrote-cons (ltb-true at (length s) i) (f w))
+      go true false i j f w = let o : _≡_ {A = ℕ} 0 1 = cc in absurd (omega arith)
+      go false v i j f w = let o : _≡_ {A = ℕ} 0 1 = cc in absurd (omega arith)
+
+  pub wrote-version : (at : ℕ) {u : Unit {0}} {next : ℕ} → version s at ≡ read u next → Wrote s at next (1 ∷ 0 ∷ [])
+  unfolding version
+  wrote-version at {u} {next} e = go (leb (at + 2) (length s)) (eqb (getD s at 0 + 256 * getD s (at + 1) 0) 1) refl refl e
+    where
+      go : (t v : Bool) → leb (at + 2) (length s) ≡ t → eqb (getD s at 0 + 256 * getD s (at + 1) 0) 1 ≡ v
+          → cond t (cond v (read tt (at + 2)) (refuse (refusal 2 at))) (refuse (cut s)) ≡ read u next → Wrote s at next (1 ∷ 0 ∷ [])
+      go true true i j w =
+          let h = leb-true (at + 2) (length s) i in
+          let n = eqb-true (getD s at 0 + 256 * getD s (at + 1) 0) 1 j in
+          let a : getD s at 0 ≡ 1 = omega arith in
+          let b : getD s (at + 1) 0 ≡ 0 = omega arith in
+          let q : at + 2 ≡ next = cc in
+          let p : at + 1 + 1 ≡ next = omega arith in
+          go₂ a b p (wrote-join (wrote-byte at (omega arith)) (wrote-byte (at + 1) (omega arith)))
+        where
+          go₂ : {x y m : ℕ} → x ≡ 1 → y ≡ 0 → m ≡ next → Wrote s at m (x ∷ y ∷ []) → Wrote s at next (1 ∷ 0 ∷ [])
+          go₂ a b p r = rw (a, b, p) at r
+      go true false i j w = let o : _≡_ {A = ℕ} 0 1 = cc in absurd (omega arith)
+      go false v i j w = let o : _≡_ {A = ℕ} 0 1 = cc in absurd (omega arith)
+
+  pub read-ended : (at : ℕ) {u : Unit {0}} {next : ℕ} → ended s at ≡ read u next → (length s ≤ at) × (next ≡ at)
+  unfolding ended
+  read-ended at {u} {next} e = go (ltb at (length s)) refl e
+    where
+      go : (t : Bool) → ltb at (length s) ≡ t → cond t (refuse (refusal 4 at)) (read tt at) ≡ read u next → (length s ≤ at) × (next ≡ at)
+      go true i w = let o : _≡_ {A = ℕ} 0 1 = cc in absurd (omega arith)
+      go false i w = (ltb-false at (length s) i, cc)
+
+-- The bytes from an offset on, counted from i.
+abbrev pub span : List ℕ → ℕ → ℕ → ℕ → List ℕ
+span s at i zero = []
+span s at i (suc k) = getD s (at + i) 0 ∷ span s at (suc i) k
+
+module _ (s : List ℕ) (at : ℕ) where
+  pub wrote-span : (i k : ℕ) → at + (i + k) ≤ length s → Wrote s (at + i) (at + (i + k)) (span s at i k)
+  wrote-span i zero h = let p : at + (i + 0) ≡ at + i = omega arith in rw p (wrote-none s (at + i))
+  wrote-span i (suc k) h =
+      let p : at + i + 1 ≡ at + suc i = omega arith in
+      let q : at + (i + suc k) ≡ at + (suc i + k) = omega arith in
+      wrote-cons s (omega arith) (rw (p, q) (wrote-span (suc i) k (omega arith)))
+
+-- Several parts, of which each that was read is what was written.
+module _ {A : Type 0} (p : Parser A) (w : A → List ℕ) (s : List ℕ)
+    (wrote : (at : ℕ) (a : A) (next : ℕ) → p s at ≡ read a next → Wrote s at next (w a)) where
+  pub wrote-many : {at next : ℕ} {as′ : List A} → ReadMany p s at as′ next → Wrote s at next (joined w as′)
+  wrote-many (none {at}) = wrote-none s at
+  wrote-many (one e r) = wrote-join s (wrote _ _ _ e) (wrote-many r)
+
+  -- Where each part stands.
+  pub many-at : {at next : ℕ} {as′ : List A} (d : A) → ReadMany p s at as′ next → (i : ℕ) → i < length as′
+      → p s (at + length (joined w (take i as′))) ≡ read (getD as′ i d) (at + length (joined w (take (suc i) as′)))
+  many-at d (none) i h = absurd (omega arith)
+  many-at d (one {at} {middle} {next} {a} {more} e r) zero h =
+      let x = wrote at a middle e .past in
+      let y : at + 0 ≡ at = omega arith in
+      let z : at + length (w a ++ []) ≡ middle = omega (arith, length-append (w a) []) in
+      rw (y, z) e
+  many-at d (one {at} {middle} {next} {a} {more} e r) (suc i) h =
+      let x = wrote at a middle e .past in
+      let y : at + length (w a ++ joined w (take i more)) ≡ middle + length (joined w (take i more)) =
+      omega (arith, length-append (w a) (joined w (take i more))) in
+      let z : at + length (w a ++ joined w (take (suc i) more)) ≡ middle + length (joined w (take (suc i) more)) =
+      omega (arith, length-append (w a) (joined w (take (suc i) more))) in
+      rw (y, z) (many-at d r i (omega arith))

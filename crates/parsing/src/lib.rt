@@ -1,0 +1,138 @@
+// What files of both kinds are read with: refusals, the fields that they share, and the ends of parts.
+ghost use mathlib.Core.Path.{_≡_};
+ghost use Rattle.parsing.specs.Parser.{pastOf};
+ghost use Rattle.parsing.specs.Fields.{valueOf, counted, count, marked, version, ended};
+
+// A refusal is a number and a place.
+pub struct Refusal {
+    pub number: u8,
+    pub place: usize,
+}
+
+// What reading a part finds: the offset past it, or a refusal.
+pub enum Scan {
+    Past(usize),
+    Stopped(Refusal),
+}
+
+// What reading a count finds.
+pub enum Count {
+    Is(usize),
+    Outside(Refusal),
+}
+
+// The answer of a check.
+pub enum Checked {
+    Accepted,
+    Refused(Refusal),
+}
+
+// The mark at the head of a file: its bytes are judged one by one.
+pub fn mark_end(file: &[u8], mark: &[u8]) -> Scan
+    ensures { λ r. ⌜ r ≡ pastOf (marked (now (mark .entry)) (now (file .entry)) 0) ⌝ }
+{
+    let mut i = 0;
+    while i < mark.len() {
+        if file.len() <= i {
+            return Scan::Stopped(Refusal {
+                number: 3,
+                place: file.len(),
+            });
+        }
+        if file[i] != mark[i] {
+            return Scan::Stopped(Refusal {
+                number: 1,
+                place: i,
+            });
+        }
+        i += 1;
+    }
+    Scan::Past(i)
+}
+
+// The version, judged once it is whole.
+pub fn version_end(file: &[u8], at: usize) -> Scan
+    ensures { λ r. ⌜ r ≡ pastOf (version (now (file .entry)) at) ⌝ }
+{
+    let n = file.len();
+    if n <= at {
+        return Scan::Stopped(Refusal {
+            number: 3,
+            place: n,
+        });
+    }
+    let past = at + 2;
+    if n < past {
+        return Scan::Stopped(Refusal {
+            number: 3,
+            place: n,
+        });
+    }
+    let high = at + 1;
+    if file[at] != 1 {
+        return Scan::Stopped(Refusal {
+            number: 2,
+            place: at,
+        });
+    }
+    if file[high] != 0 {
+        return Scan::Stopped(Refusal {
+            number: 2,
+            place: at,
+        });
+    }
+    Scan::Past(past)
+}
+
+// A count of one byte, in its range.
+pub fn count_at(file: &[u8], at: usize, low: usize, high: usize) -> Count
+    ensures { λ r. ⌜ r ≡ counted (count low high (now (file .entry)) at) ⌝ }
+{
+    let n = file.len();
+    if n <= at {
+        return Count::Outside(Refusal {
+            number: 3,
+            place: n,
+        });
+    }
+    let k = file[at] as usize;
+    if k < low {
+        return Count::Outside(Refusal {
+            number: 5,
+            place: at,
+        });
+    }
+    if high < k {
+        return Count::Outside(Refusal {
+            number: 5,
+            place: at,
+        });
+    }
+    Count::Is(k)
+}
+
+// The end of the file: no bytes are left over.
+pub fn file_end(file: &[u8], at: usize) -> Scan
+    ensures { λ r. ⌜ r ≡ pastOf (ended (now (file .entry)) at) ⌝ }
+{
+    if at < file.len() {
+        return Scan::Stopped(Refusal {
+            number: 4,
+            place: at,
+        });
+    }
+    Scan::Past(at)
+}
+
+// The signed 32-bit value of four bytes, the low byte first.
+pub fn value(b0: u8, b1: u8, b2: u8, b3: u8) -> i32
+    ensures { λ r. ⌜ r ≡ valueOf b0 b1 b2 b3 ⌝ }
+{
+    let low = (b0 as u32) + 256 * (b1 as u32) + 65536 * (b2 as u32);
+    let high = b3 as u32;
+    if high < 128 {
+        (low + 16777216 * high) as i32
+    } else {
+        ((low + 16777216 * (high - 128)) as i32) + (-2147483648)
+    }
+}

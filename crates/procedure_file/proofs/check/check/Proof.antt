@@ -1,0 +1,51 @@
+use Rattle.procedure_file.specs.CheckLaws.{check-stopped, check-laid, check-named}
+use Rattle.procedure_file.specs.AcceptedLaws.{check-long}
+use native.Mathlib.Omega.{arith}
+use mathlib.Core.Path.{_≡_, refl, sym, ap, _∙_}
+use borrow.Author.Needs.{needs}
+use Rattle.procedure_file.proofs.check.check.Statement.{statement}
+use Rattle.procedure_file.proofs.check.check.Tie as tie
+use Rattle.procedure_file.proofs.check.check.Reads as reads
+use Rattle.procedure_file.proofs.check.check.Lts as lts
+use Rattle.procedure_file.proofs.check.names_checked.Reads as names-checked-reads
+use Rattle.procedure_file.proofs.layout.layout_end.Reads as layout-end-reads
+
+-- src/check.rt:128:9
+returns : tie.Need-returns
+returns c = sym (check-long _ (c .if1 .taken))
+
+-- src/check.rt:133:11
+layout-end-requires : tie.Need-layout-end-requires
+layout-end-requires c κs = search needs
+
+-- src/check.rt:134:23
+enum-known-r : tie.Need-enum-known-r
+enum-known-r c = search needs
+
+-- src/check.rt:135:26
+enum-told : tie.Need-enum-told
+enum-told c = search needs
+
+-- src/check.rt:135:26
+names-checked-requires : tie.Need-names-checked-requires
+names-checked-requires c κs = check-laid (c .before .before .before .before .before .args .file .now) (c .before .before .before .if1 .left) (λ i. omega (arith, c .before .before .before .before .shared-slice-known .given i)) _ (sym (c .before .before .layout-end .ensures) ∙ c .enum-told .given .1)
+
+-- src/check.rt:124:1
+returns-2 : tie.Need-returns-2
+returns-2 c = check-stopped (c .before .before .before .before .before .before .args .file .now) (c .before .before .before .before .if1 .left) (c .before .r .given .0 .0) (sym (c .before .before .before .layout-end .ensures) ∙ c .before .r .given .1)
+
+-- src/check.rt:124:1
+returns-3 : tie.Need-returns-3
+returns-3 c = c .names-checked .ensures ∙ check-named (c .before .before .before .before .before .before .args .file .now) (c .before .before .before .before .if1 .left) (λ i. omega (arith, c .before .before .before .before .before .shared-slice-known .given i)) _ (sym (c .before .before .before .layout-end .ensures) ∙ c .before .enum-told .given .1)
+
+pub check-spec : {M : Type 1} → statement M
+check-spec =
+    tie.close
+    (tie.spec
+    returns
+    layout-end-requires
+    enum-known-r
+    enum-told
+    names-checked-requires
+    returns-2
+    returns-3)

@@ -1,0 +1,30 @@
+-- Demand 1 for procedure files: a file is accepted exactly when it is the writing of a program within document 01's ranges that is
+-- well-formed (figure 3), and at most 32,768 bytes long.
+use Prim.Native.Nat.{ℕ, _≤_, _<_}
+use mathlib.Core.Path.{_≡_}
+use mathlib.Core.List.{List}
+use lib.ListN.{length, getD}
+use Rattle.parsing.specs.Parser.{accepted}
+use Rattle.semantics.specs.Program.{Program}
+use Rattle.semantics.specs.WellFormed.{WellFormed}
+use Rattle.procedure_file.specs.Writing.{writing, InRange}
+use Rattle.procedure_file.specs.Check.{checkOf, programOf}
+
+-- A list of bytes.
+abbrev pub Bytes : List ℕ → Type 0
+Bytes s = (i : ℕ) → getD s i 0 < 256
+
+-- A program that has a file.
+pub record HasFile (P : Program) : Type 0 where
+  pub inRange : InRange P
+  pub wellFormed : WellFormed P
+  pub fits : length (writing P) ≤ 32768
+
+-- The statement, which AcceptedLaws proves.
+pub record Acceptance : Type 0 where
+  -- An accepted file is the writing of the program that is read.
+  pub isWriting : (s : List ℕ) → Bytes s → checkOf s ≡ accepted → HasFile (programOf s) × (s ≡ writing (programOf s))
+  -- The writing of every such program is accepted, and it is the program that is read.
+  pub isAccepted : (P : Program) → HasFile P → (checkOf (writing P) ≡ accepted) × (programOf (writing P) ≡ P)
+  -- No two programs share a file.
+  pub isOne : (P Q : Program) → HasFile P → HasFile Q → writing P ≡ writing Q → P ≡ Q

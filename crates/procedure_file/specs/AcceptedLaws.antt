@@ -1,0 +1,89 @@
+-- The proof of demand 1 for procedure files.
+use Prim.Native.Nat.{ℕ, _≤_, _<_}
+use mathlib.Core.Path.{_≡_, refl, sym, ap, _∙_}
+use mathlib.Core.Bool.{Bool, true, false, cond}
+use mathlib.Core.List.{List}
+use native.Mathlib.Omega.{arith}
+use borrow.Author.Tests.{leb-true, le-leb, lt-leb}
+use lib.Dec.{leb}
+use lib.ListN.{length, getD}
+use Rattle.parsing.specs.Parser.{Parsed, read, refuse, Verdict, accepted, refused}
+use Rattle.semantics.specs.Program.{Program}
+use Rattle.procedure_file.specs.Layout.{program}
+use Rattle.procedure_file.specs.Writing.{writing, InRange}
+use Rattle.procedure_file.specs.Names.{namesOf, firstWrong}
+use Rattle.procedure_file.specs.Check.{named, checkOf, programRead, programOf}
+use Rattle.procedure_file.specs.Accepted.{Bytes, HasFile, Acceptance}
+use Rattle.procedure_file.specs.WrittenLaws.{ReadProgram, read-program, written, in-range}
+use Rattle.procedure_file.specs.ReadsBackLaws.{reads-program}
+use Rattle.procedure_file.specs.NamesLaws.{names-right, names-formed}
+
+abbrev impossible : {A : Type 0} → _≡_ {A = ℕ} 0 1 → A
+impossible o = absurd (omega arith)
+
+-- A file whose layout is whole, of the length that is allowed, as a list of bytes.
+pub record Laid (s : List ℕ) : Type 0 where
+  pub bytes : Bytes s
+  pub short : length s ≤ 32768
+  pub reads : ReadProgram s (programOf s)
+
+module _ (s : List ℕ) (bytes : Bytes s) where
+  pub laid-by : (P : Program) (next : ℕ) → program s 0 ≡ read P next → length s ≤ 32768 → Laid s × (programOf s ≡ P)
+  unfolding programOf
+  laid-by P next e l =
+      let p : programOf s ≡ P = ap programRead e in
+      (record { bytes = bytes; short = l; reads = rw p (read-program s bytes P next e) }, p)
+
+-- What the checker answers, by its parts.
+module _ (s : List ℕ) where
+  pub check-long : 32768 < length s → checkOf s ≡ refused 15 32768
+  unfolding checkOf
+  check-long h = rw (lt-leb (length s) 32768 h)
+
+  pub check-layout : length s ≤ 32768 → checkOf s ≡ named (program s 0)
+  unfolding checkOf
+  check-layout h = rw (le-leb (length s) 32768 h)
+
+  pub record Passed : Type 0 where
+    pub short : length s ≤ 32768
+    pub what : Program
+    pub next : ℕ
+    pub reads : program s 0 ≡ read what next
+    pub right : firstWrong (namesOf what) ≡ accepted
+
+  pub passed : checkOf s ≡ accepted → Passed
+  unfolding checkOf
+  passed e = go (leb (length s) 32768) (program s 0) refl refl e
+    where
+      go : (t : Bool) (x : Parsed Program) → leb (length s) 32768 ≡ t → program s 0 ≡ x → cond t (named x) (refused 15 32768) ≡ accepted → Passed
+      go true (read P next) l r w = record { short = leb-true (length s) 32768 l; what = P; next = next; reads = r; right = w }
+      go true (refuse q) l r w = impossible (cc)
+      go false x l r w = impossible (cc)
+
+pub is-writing : (s : List ℕ) → Bytes s → checkOf s ≡ accepted → HasFile (programOf s) × (s ≡ writing (programOf s))
+is-writing s bytes e =
+    let a = passed s e in
+    let l = laid-by s bytes (a .what) (a .next) (a .reads) (a .short) in
+    let w = written s bytes (programOf s) (l .0 .reads) in
+    let f : firstWrong (namesOf (programOf s)) ≡ accepted = ap (λ (P : Program). firstWrong (namesOf P)) (l .1) ∙ a .right in (
+      record {
+        inRange = in-range s bytes (programOf s) (l .0 .reads);
+        wellFormed = names-formed (programOf s) f;
+        fits = rw (← w) (a .short);
+      },
+      w,
+    )
+
+pub is-accepted : (P : Program) → HasFile P → (checkOf (writing P) ≡ accepted) × (programOf (writing P) ≡ P)
+unfolding programOf
+is-accepted P h =
+    let r = reads-program P (h .inRange) in
+    (check-layout (writing P) (h .fits) ∙ ap named r ∙ names-right P (h .wellFormed), ap programRead r)
+
+pub acceptance : Acceptance
+acceptance =
+    record {
+      isWriting = is-writing;
+      isAccepted = is-accepted;
+      isOne = λ P Q p q e. sym (is-accepted P p .1) ∙ ap programOf e ∙ is-accepted Q q .1;
+    }

@@ -1,0 +1,29 @@
+-- Laws of the check, as the function meets them.
+use Prim.Native.Nat.{ℕ, _≤_, _<_}
+use mathlib.Core.Path.{_≡_, refl, sym, ap, _∙_}
+use mathlib.Core.List.{List}
+use lib.ListN.{length}
+use Rattle.parsing.specs.declared.Refusal.{Refusal}
+use Rattle.parsing.specs.declared.Scan.the-variants.{Past, Stopped}
+use Rattle.parsing.specs.Parser.{Parsed, read, refuse, pastOf, Verdict, accepted, refused}
+use Rattle.parsing.specs.ParserLaws.{past-read, past-refuse}
+use Rattle.semantics.specs.Program.{Program}
+use Rattle.procedure_file.specs.Layout.{program}
+use Rattle.procedure_file.specs.Names.{namesOf, firstWrong}
+use Rattle.procedure_file.specs.Check.{named, checkOf, programOf}
+use Rattle.procedure_file.specs.Accepted.{Bytes}
+use Rattle.procedure_file.specs.AcceptedLaws.{Laid, laid-by, check-layout}
+
+module _ (s : List ℕ) (short : length s ≤ 32768) where
+  pub check-stopped : (r : Refusal) → pastOf (program s 0) ≡ Stopped r → refused (r .number) (r .place) ≡ checkOf s
+  check-stopped r e = sym (check-layout s short ∙ ap named (past-refuse (program s 0) e))
+
+  module _ (bytes : Bytes s) (next : ℕ) (whole : pastOf (program s 0) ≡ Past next) where
+    pub check-laid : Laid s
+    check-laid = let r = past-read (program s 0) whole in laid-by s bytes (r .what) next (r .is) short .0
+
+    pub check-named : firstWrong (namesOf (programOf s)) ≡ checkOf s
+    check-named =
+        let r = past-read (program s 0) whole in
+        let p = laid-by s bytes (r .what) next (r .is) short .1 in
+        ap (λ (P : Program). firstWrong (namesOf P)) p ∙ sym (check-layout s short ∙ ap named (r .is))

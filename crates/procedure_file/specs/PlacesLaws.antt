@@ -1,0 +1,152 @@
+-- What stands at the places of a file that was read.
+use Prim.Native.Nat.{ℕ, zero, suc, _+_, _*_, _≤_, _<_}
+use mathlib.Core.Path.{_≡_, refl, sym, ap, _∙_, subst}
+use mathlib.Core.List.{List, [], _∷_}
+use native.Mathlib.Omega.{arith}
+use lib.IntN.{ℤ}
+use lib.ListN.{length, getD, take, drop, length-drop}
+use lib.Seq.{take-all}
+use Rattle.parsing.specs.Parser.{Parsed, read, refuse, joined}
+use Rattle.parsing.specs.Fields.{valueAt}
+use Rattle.parsing.specs.ParserLaws.{ReadMany}
+use Rattle.parsing.specs.WroteLaws.{Wrote, wrote-many, many-at}
+use Rattle.semantics.specs.Program.{Block, constant, copy, difference, call, goto, return, branch, raise, Labelled, Function, Program, noFunction, functionOf}
+use Rattle.procedure_file.specs.declared.operation.Operation.{Operation}
+use Rattle.procedure_file.specs.declared.operation.Operation.the-variants.{Constant, Copy, Difference, Call, Goto, Return, Branch, Raise, Refused}
+use Rattle.procedure_file.specs.Operation.{operationAt}
+use Rattle.procedure_file.specs.Layout.{blockFrom, before, argumentsAt, block, labelled, function}
+use Rattle.procedure_file.specs.Writing.{blockBytes, labelledBytes, functionBytes}
+use Rattle.procedure_file.specs.Rest.{restFrom, restAt}
+use Rattle.procedure_file.specs.Accepted.{Bytes}
+use Rattle.procedure_file.specs.Places.{functionPlace, labelPlace, startOf, noLabelled, blockOf, handlerOf}
+use Rattle.procedure_file.specs.OperationLaws.{operation-1, operation-2, operation-3, operation-4, constant-in, copy-in, difference-in, call-in, goto-in, return-in, branch-in, end-5, end-6, end-7, end-8}
+use Rattle.procedure_file.specs.WalkLaws.{block-law, rest-law}
+use Rattle.procedure_file.specs.BlockLaws.{ReadBlock, readConstant, readCopy, readDifference, readCall, readGoto, readReturn, readBranch, readRaise, read-block}
+use Rattle.procedure_file.specs.WrittenLaws.{wrote-block, wrote-labelled, wrote-function, ReadLabelled, read-labelled, ReadFunction, read-function, ReadProgram}
+use Rattle.procedure_file.specs.ReadsBackLaws.{operation-ends}
+
+-- The operation at an offset, by its number.
+module _ (s : List ℕ) (at : ℕ) where
+  pub op-constant : getD s at 0 ≡ 1 → at + 6 ≤ length s → operationAt s at ≡ Constant (getD s (at + 1) 0) (valueAt s (at + 2)) (at + 6)
+  op-constant e h = operation-1 s at (omega arith) e ∙ constant-in s at h
+
+  pub op-copy : getD s at 0 ≡ 2 → at + 3 ≤ length s → operationAt s at ≡ Copy (getD s (at + 1) 0) (getD s (at + 2) 0) (at + 3)
+  op-copy e h = operation-2 s at (omega arith) e ∙ copy-in s at h
+
+  pub op-difference : getD s at 0 ≡ 3 → at + 4 ≤ length s
+      → operationAt s at ≡ Difference (getD s (at + 1) 0) (getD s (at + 2) 0) (getD s (at + 3) 0) (at + 4)
+  op-difference e h = operation-3 s at (omega arith) e ∙ difference-in s at h
+
+  pub op-call : getD s at 0 ≡ 4 → at + 4 + getD s (at + 3) 0 ≤ length s
+      → operationAt s at ≡ Call (getD s (at + 1) 0) (getD s (at + 2) 0) (getD s (at + 3) 0) (at + 4 + getD s (at + 3) 0)
+  op-call e h = operation-4 s at (omega arith) e ∙ call-in s at h
+
+  pub op-goto : getD s at 0 ≡ 5 → at + 2 ≤ length s → operationAt s at ≡ Goto (getD s (at + 1) 0) (at + 2)
+  op-goto e h = operation-ends s at 5 (omega arith) e (omega arith) ∙ end-5 s at 5 refl ∙ goto-in s at h
+
+  pub op-return : getD s at 0 ≡ 6 → at + 2 ≤ length s → operationAt s at ≡ Return (getD s (at + 1) 0) (at + 2)
+  op-return e h = operation-ends s at 6 (omega arith) e (omega arith) ∙ end-6 s at 6 refl ∙ return-in s at h
+
+  pub op-branch : getD s at 0 ≡ 7 → at + 5 ≤ length s
+      → operationAt s at ≡ Branch (getD s (at + 1) 0) (getD s (at + 2) 0) (getD s (at + 3) 0) (getD s (at + 4) 0) (at + 5)
+  op-branch e h = operation-ends s at 7 (omega arith) e (omega arith) ∙ end-7 s at 7 refl ∙ branch-in s at h
+
+  pub op-raise : getD s at 0 ≡ 8 → at + 1 ≤ length s → operationAt s at ≡ Raise (at + 1)
+  op-raise e h = operation-ends s at 8 (omega arith) e (omega arith) ∙ end-8 s at 8 refl
+
+module _ (s : List ℕ) where
+  from : (at : ℕ) (o : Operation) → operationAt s at ≡ o → block s at ≡ blockFrom s at o (block s)
+  from at o e = block-law s at ∙ ap (λ x. blockFrom s at x (block s)) e
+
+  -- A block that was read is read.
+  pub block-is : {at next : ℕ} {b : Block} → ReadBlock s at b next → block s at ≡ read b next
+  block-is (readConstant {at} e h r) = from at _ (op-constant s at e h) ∙ ap (before _) (block-is r)
+  block-is (readCopy {at} e h r) = from at _ (op-copy s at e h) ∙ ap (before _) (block-is r)
+  block-is (readDifference {at} e h r) = from at _ (op-difference s at e h) ∙ ap (before _) (block-is r)
+  block-is (readCall {at} e h r) = from at _ (op-call s at e h) ∙ ap (before _) (block-is r)
+  block-is (readGoto {at} e h) = from at _ (op-goto s at e h)
+  block-is (readReturn {at} e h) = from at _ (op-return s at e h)
+  block-is (readBranch {at} e h) = from at _ (op-branch s at e h)
+  block-is (readRaise {at} e h) = from at _ (op-raise s at e h)
+
+  rest-from : (at : ℕ) (o : Operation) → operationAt s at ≡ o → restAt s at ≡ restFrom s at o (restAt s)
+  rest-from at o e = rest-law s at ∙ ap (λ x. restFrom s at x (restAt s)) e
+
+  -- The rest of a block that was read is that block.
+  pub rest-is : {at next : ℕ} {b : Block} → ReadBlock s at b next → restAt s at ≡ b
+  rest-is (readConstant {at} e h r) = rest-from at _ (op-constant s at e h) ∙ ap (constant (getD s (at + 1) 0) (valueAt s (at + 2))) (rest-is r)
+  rest-is (readCopy {at} e h r) = rest-from at _ (op-copy s at e h) ∙ ap (copy (getD s (at + 1) 0) (getD s (at + 2) 0)) (rest-is r)
+  rest-is (readDifference {at} e h r) =
+      rest-from at _ (op-difference s at e h) ∙ ap (difference (getD s (at + 1) 0) (getD s (at + 2) 0) (getD s (at + 3) 0)) (rest-is r)
+  rest-is (readCall {at} e h r) =
+      rest-from at _ (op-call s at e h) ∙ ap (call (getD s (at + 1) 0) (getD s (at + 2) 0) (argumentsAt s at (getD s (at + 3) 0))) (rest-is r)
+  rest-is (readGoto {at} e h) = rest-from at _ (op-goto s at e h)
+  rest-is (readReturn {at} e h) = rest-from at _ (op-return s at e h)
+  rest-is (readBranch {at} e h) = rest-from at _ (op-branch s at e h)
+  rest-is (readRaise {at} e h) = rest-from at _ (op-raise s at e h)
+
+  -- A block ends behind its beginning, inside the file.
+  pub block-inside : {at next : ℕ} {b : Block} → ReadBlock s at b next → (at < next) × (next ≤ length s)
+  block-inside (readConstant e h r) = let i = block-inside r in (omega (arith, i .0), i .1)
+  block-inside (readCopy e h r) = let i = block-inside r in (omega (arith, i .0), i .1)
+  block-inside (readDifference e h r) = let i = block-inside r in (omega (arith, i .0), i .1)
+  block-inside (readCall e h r) = let i = block-inside r in (omega (arith, i .0), i .1)
+  block-inside (readGoto e h) = (omega arith, h)
+  block-inside (readReturn e h) = (omega arith, h)
+  block-inside (readBranch e h) = (omega arith, h)
+  block-inside (readRaise e h) = (omega arith, h)
+
+module _ (s : List ℕ) (bytes : Bytes s) (P : Program) (reads : ReadProgram s P) where
+  -- Function f stands at its place.
+  pub function-at : (f : ℕ) → f < length P → ReadFunction s (functionPlace P f) (functionOf P f) (functionPlace P (suc f))
+  unfolding functionPlace
+  function-at f h = read-function s _ _ _ (many-at function functionBytes s (wrote-function s bytes) noFunction (reads .functions) f h)
+
+  module _ (f : ℕ) (there : f < length P) where
+    abbrev F : Function
+    F = functionOf P f
+
+    middle-is : function-at f there .middle ≡ labelPlace P f 0
+    unfolding labelPlace
+    middle-is = omega (arith, wrote-block s bytes (function-at f there .entry) .past)
+
+    pub entry-at : ReadBlock s (functionPlace P f + 3) (F .entry) (labelPlace P f 0)
+    entry-at = rw middle-is at (function-at f there .entry)
+
+    labels : ReadMany labelled s (labelPlace P f 0) (F .blocks) (functionPlace P (suc f))
+    labels = rw middle-is at (function-at f there .labels)
+
+    place-more : (l : ℕ) → labelPlace P f 0 + length (joined labelledBytes (take l (F .blocks))) ≡ labelPlace P f l
+    unfolding labelPlace
+    place-more l = omega arith
+
+    -- Labelled block l + 1 stands at its place.
+    pub label-at : (l : ℕ) → l < length (F .blocks) → ReadLabelled s (labelPlace P f l) (getD (F .blocks) l noLabelled) (labelPlace P f (suc l))
+    label-at l h =
+        let e = many-at labelled labelledBytes s (wrote-labelled s bytes) noLabelled labels l h in
+        read-labelled s _ _ _ (rw (place-more l, place-more (suc l)) at e)
+
+    -- Behind its last labelled block a function ends.
+    pub function-ends : labelPlace P f (length (F .blocks)) ≡ functionPlace P (suc f)
+    function-ends =
+        let w = wrote-many labelled labelledBytes s (wrote-labelled s bytes) labels in
+        sym (place-more (length (F .blocks)))
+        ∙ ap (λ (Bs : List Labelled). labelPlace P f 0 + length (joined labelledBytes Bs)) (take-all (length (F .blocks)) (F .blocks) (omega arith))
+        ∙ sym (w .past)
+
+    pub label-next : (l : ℕ) → l < length (F .blocks) → labelPlace P f l + length (labelledBytes (getD (F .blocks) l noLabelled)) ≡ labelPlace P f (suc l)
+    label-next l h =
+        let e = many-at labelled labelledBytes s (wrote-labelled s bytes) noLabelled labels l h in
+        sym (wrote-labelled s bytes _ _ _ (rw (place-more l, place-more (suc l)) at e) .past)
+
+    pub function-next : functionPlace P f + length (functionBytes F) ≡ functionPlace P (suc f)
+    unfolding functionPlace
+    function-next = sym (wrote-function s bytes _ _ _ (many-at function functionBytes s (wrote-function s bytes) noFunction (reads .functions) f there) .past)
+
+    -- The block with a label begins at its start.
+    pub start-at : (l : ℕ) → l ≤ length (F .blocks) → ReadBlock s (startOf P f l) (blockOf F l) (labelPlace P f l)
+    start-at zero h = entry-at
+    start-at (suc l) h = label-at l h .block
+
+    pub handler-at : (l : ℕ) → l < length (F .blocks) → getD s (labelPlace P f l) 0 ≡ handlerOf F (suc l)
+    handler-at l h = sym (label-at l h .handlerIs)

@@ -1,0 +1,166 @@
+-- The writing of a program in range is read as that program.
+use Prim.Native.Nat.{ℕ, zero, suc, _+_, _*_, _/_, _%_, _^_, _-_, _≤_, _<_}
+use mathlib.Core.Path.{_≡_, refl, sym, ap, _∙_}
+use mathlib.Core.List.{List, [], _∷_, _++_, append-nil, append-assoc}
+use native.Mathlib.Omega.{arith}
+use lib.IntN.{ℤ, pos, negsuc}
+use lib.ListN.{length, getD, take, drop, length-append}
+use lib.Seq.{take-at}
+use mir.Syntax.{w32}
+use mir.Val.{toZ, ofZ, SFits}
+use mir.Facts.{toZ-ofZ}
+use Rattle.parsing.specs.Parser.{Parsed, read, refuse, Parser, andThen, many, joined}
+use Rattle.parsing.specs.Fields.{byte, marked, version, count, ended, valueOf, valueAt}
+use Rattle.parsing.specs.ReadsLaws.{Reads, behind, byte-here, first-here, length-here, next-here, reads-bind, reads-map, reads-many, reads-byte, reads-count, reads-marked, reads-version, reads-ended}
+use Rattle.semantics.specs.Program.{Block, constant, copy, difference, call, goto, return, branch, raise, Labelled, Function, Program}
+use Rattle.semantics.specs.WellFormed.{All}
+use Rattle.procedure_file.specs.declared.operation.Operation.{Operation}
+use Rattle.procedure_file.specs.declared.operation.Operation.the-variants.{Constant, Copy, Difference, Call, Goto, Return, Branch, Raise, Refused}
+use Rattle.procedure_file.specs.Operation.{operationAt, endAt}
+use Rattle.procedure_file.specs.Layout.{spf, argumentsAt, blockFrom, before, block, labelled, Heading, heading, function, program}
+use Rattle.procedure_file.specs.Writing.{valueBytes, blockBytes, labelledBytes, functionBytes, writing, ValuesFit, FunctionInRange, InRange}
+use Rattle.procedure_file.specs.OperationLaws.{operation-1, operation-2, operation-3, operation-4, operation-end, constant-in, copy-in, difference-in, call-in, goto-in, return-in, branch-in, end-5, end-6, end-7, end-8}
+use Rattle.procedure_file.specs.WalkLaws.{block-law}
+
+-- What holds of every element holds of each.
+pub all-at : {A : Type 0} (Q : A → Type 0) (as′ : List A) → All Q as′ → (i : ℕ) (d : A) → i < length as′ → Q (getD as′ i d)
+all-at Q [] h i d l = absurd (omega arith)
+all-at Q (a ∷ more) h zero d l = h .0
+all-at Q (a ∷ more) h (suc i) d l = all-at Q more (h .1) i d (omega arith)
+
+-- The value of the bytes of a value is that value.
+pub value-forth : (i : ℤ) → SFits w32 i
+    → valueOf (ofZ w32 i % 256) (ofZ w32 i / 256 % 256) (ofZ w32 i / 256 / 256 % 256) (ofZ w32 i / 256 / 256 / 256) ≡ i
+unfolding valueOf
+value-forth i f =
+    let n = ofZ w32 i in
+    let e : n % 256 + 256 * (n / 256 % 256) + 65536 * (n / 256 / 256 % 256) + 16777216 * (n / 256 / 256 / 256) ≡ n = omega arith in
+    rw e (toZ-ofZ f)
+
+-- An operation that ends a block, at an offset.
+pub operation-ends : (s : List ℕ) (at k : ℕ) → at < length s → getD s at 0 ≡ k → 5 ≤ k → operationAt s at ≡ endAt s at k
+operation-ends s at k i e h =
+    operation-end s at i (λ w. omega arith) (λ w. omega arith) (λ w. omega arith) (λ w. omega arith) ∙ ap (endAt s at) e
+
+-- An operation before a block that is read.
+onto : (s : List ℕ) (at m n n′ : ℕ) (c : Block → Block) (b : Block) → block s at ≡ before c (block s m) → block s m ≡ read b n → n ≡ n′ → block s at ≡ read (c b) n′
+onto s at m n n′ c b e r q = e ∙ ap (before c) r ∙ ap (read (c b)) q
+
+module _ (s : List ℕ) (at : ℕ) where
+  from : (o : Operation) → operationAt s at ≡ o → block s at ≡ blockFrom s at o (block s)
+  from o e = block-law s at ∙ ap (λ x. blockFrom s at x (block s)) e
+
+  constant-here : (x : ℕ) (i : ℤ) (rest : List ℕ) → SFits w32 i → drop at s ≡ 1 ∷ x ∷ (valueBytes i ++ rest) → operationAt s at ≡ Constant x i (at + 6)
+  constant-here x i rest f h =
+      let b = byte-here s at (1 ∷ x ∷ (valueBytes i ++ rest)) h in
+      let l = length-here s at (1 ∷ x ∷ (valueBytes i ++ rest)) h in
+      let p : at + 2 + 1 ≡ at + 3 = omega arith in
+      let q : at + 2 + 2 ≡ at + 4 = omega arith in
+      let r : at + 2 + 3 ≡ at + 5 = omega arith in
+      let v : valueAt s (at + 2) ≡ i = rw (p, q, r, b 2, b 3, b 4, b 5) (value-forth i f) in
+      operation-1 s at (omega arith) (first-here s at (1 ∷ x ∷ (valueBytes i ++ rest)) h) ∙ constant-in s at (omega arith)
+      ∙ ap (λ (y : ℕ). Constant y (valueAt s (at + 2)) (at + 6)) (b 1) ∙ ap (λ (z : ℤ). Constant x z (at + 6)) v
+
+  copy-here : (x y : ℕ) (rest : List ℕ) → drop at s ≡ 2 ∷ x ∷ y ∷ rest → operationAt s at ≡ Copy x y (at + 3)
+  copy-here x y rest h =
+      let b = byte-here s at (2 ∷ x ∷ y ∷ rest) h in
+      let l = length-here s at (2 ∷ x ∷ y ∷ rest) h in
+      operation-2 s at (omega arith) (first-here s at (2 ∷ x ∷ y ∷ rest) h) ∙ copy-in s at (omega arith) ∙ rw (b 1, b 2)
+
+  difference-here : (x y z : ℕ) (rest : List ℕ) → drop at s ≡ 3 ∷ x ∷ y ∷ z ∷ rest → operationAt s at ≡ Difference x y z (at + 4)
+  difference-here x y z rest h =
+      let b = byte-here s at (3 ∷ x ∷ y ∷ z ∷ rest) h in
+      let l = length-here s at (3 ∷ x ∷ y ∷ z ∷ rest) h in
+      operation-3 s at (omega arith) (first-here s at (3 ∷ x ∷ y ∷ z ∷ rest) h) ∙ difference-in s at (omega arith) ∙ rw (b 1, b 2, b 3)
+
+  call-here : (x g n : ℕ) (rest : List ℕ) → drop at s ≡ 4 ∷ x ∷ g ∷ n ∷ rest → n ≤ length rest → operationAt s at ≡ Call x g n (at + 4 + n)
+  call-here x g n rest h k =
+      let b = byte-here s at (4 ∷ x ∷ g ∷ n ∷ rest) h in
+      let l = length-here s at (4 ∷ x ∷ g ∷ n ∷ rest) h in
+      let c : getD s (at + 3) 0 ≡ n = b 3 in
+      operation-4 s at (omega arith) (first-here s at (4 ∷ x ∷ g ∷ n ∷ rest) h) ∙ call-in s at (omega arith) ∙ rw (b 1, b 2, b 3)
+
+  goto-here : (l : ℕ) (rest : List ℕ) → drop at s ≡ 5 ∷ l ∷ rest → operationAt s at ≡ Goto l (at + 2)
+  goto-here l rest h =
+      let b = byte-here s at (5 ∷ l ∷ rest) h in
+      let k = length-here s at (5 ∷ l ∷ rest) h in
+      operation-ends s at 5 (omega arith) (first-here s at (5 ∷ l ∷ rest) h) (omega arith) ∙ end-5 s at 5 refl ∙ goto-in s at (omega arith) ∙ rw (b 1)
+
+  return-here : (x : ℕ) (rest : List ℕ) → drop at s ≡ 6 ∷ x ∷ rest → operationAt s at ≡ Return x (at + 2)
+  return-here x rest h =
+      let b = byte-here s at (6 ∷ x ∷ rest) h in
+      let k = length-here s at (6 ∷ x ∷ rest) h in
+      operation-ends s at 6 (omega arith) (first-here s at (6 ∷ x ∷ rest) h) (omega arith) ∙ end-6 s at 6 refl ∙ return-in s at (omega arith) ∙ rw (b 1)
+
+  branch-here : (y z l m : ℕ) (rest : List ℕ) → drop at s ≡ 7 ∷ y ∷ z ∷ l ∷ m ∷ rest → operationAt s at ≡ Branch y z l m (at + 5)
+  branch-here y z l m rest h =
+      let b = byte-here s at (7 ∷ y ∷ z ∷ l ∷ m ∷ rest) h in
+      let k = length-here s at (7 ∷ y ∷ z ∷ l ∷ m ∷ rest) h in
+      operation-ends s at 7 (omega arith) (first-here s at (7 ∷ y ∷ z ∷ l ∷ m ∷ rest) h) (omega arith) ∙ end-7 s at 7 refl
+      ∙ branch-in s at (omega arith) ∙ rw (b 1, b 2, b 3, b 4)
+
+  raise-here : (rest : List ℕ) → drop at s ≡ 8 ∷ rest → operationAt s at ≡ Raise (at + 1)
+  raise-here rest h =
+      let k = length-here s at (8 ∷ rest) h in
+      operation-ends s at 8 (omega arith) (first-here s at (8 ∷ rest) h) (omega arith) ∙ end-8 s at 8 refl
+
+pub reads-block : (b : Block) → ValuesFit b → (s : List ℕ) (at : ℕ) (rest : List ℕ) → drop at s ≡ blockBytes b ++ rest → block s at ≡ read b (at + length (blockBytes b))
+reads-block (constant x i b) f s at rest h =
+    onto s at (at + 6) _ _ (constant x i) b (from s at _ (constant-here s at x i (blockBytes b ++ rest) (f .0) h))
+    (reads-block b (f .1) s (at + 6) rest (next-here s at (1 ∷ x ∷ (valueBytes i ++ (blockBytes b ++ rest))) h 6)) (omega arith)
+reads-block (copy x y b) f s at rest h =
+    onto s at (at + 3) _ _ (copy x y) b (from s at _ (copy-here s at x y (blockBytes b ++ rest) h))
+    (reads-block b f s (at + 3) rest (next-here s at (2 ∷ x ∷ y ∷ (blockBytes b ++ rest)) h 3)) (omega arith)
+reads-block (difference x y z b) f s at rest h =
+    onto s at (at + 4) _ _ (difference x y z) b (from s at _ (difference-here s at x y z (blockBytes b ++ rest) h))
+    (reads-block b f s (at + 4) rest (next-here s at (3 ∷ x ∷ y ∷ z ∷ (blockBytes b ++ rest)) h 4)) (omega arith)
+reads-block (call x g ys b) f s at rest h =
+    let n = length ys in
+    let h′ : drop at s ≡ 4 ∷ x ∷ g ∷ n ∷ (ys ++ (blockBytes b ++ rest)) = h ∙ ap (λ (l : List ℕ). 4 ∷ x ∷ g ∷ n ∷ l) (append-assoc ys (blockBytes b) rest) in
+    let a : drop (at + 4) s ≡ ys ++ (blockBytes b ++ rest) = next-here s at (4 ∷ x ∷ g ∷ n ∷ (ys ++ (blockBytes b ++ rest))) h′ 4 in
+    let as′ : argumentsAt s at n ≡ ys = ap (take n) a ∙ take-at ys (blockBytes b ++ rest) n refl in
+    let o = call-here s at x g n (ys ++ (blockBytes b ++ rest)) h′ (omega (arith, length-append ys (blockBytes b ++ rest))) in
+    onto s at (at + 4 + n) _ _ (call x g ys) b (from s at _ o ∙ ap (λ (l : List ℕ). before (call x g l) (block s (at + 4 + n))) as′)
+    (reads-block b f s (at + 4 + n) rest (behind s (at + 4) ys (blockBytes b ++ rest) a)) (omega (arith, length-append ys (blockBytes b)))
+reads-block (goto l) f s at rest h = from s at _ (goto-here s at l rest h)
+reads-block (return x) f s at rest h = from s at _ (return-here s at x rest h)
+reads-block (branch y z l m) f s at rest h = from s at _ (branch-here s at y z l m rest h)
+reads-block raise f s at rest h = from s at _ (raise-here s at rest h)
+
+block-reads : (b : Block) → ValuesFit b → Reads block b (blockBytes b)
+block-reads b f = record { reads = reads-block b f }
+
+labelled-reads : (B : Labelled) → ValuesFit (B .block) → Reads labelled B (labelledBytes B)
+unfolding labelled
+labelled-reads B f =
+    reads-bind byte (λ h s m. andThen (block s m) (λ b k. read (record { handler = h; block = b }) k)) (reads-byte (B .handler))
+    (reads-map block (λ b s m. read (record { handler = B .handler; block = b }) m) (block-reads (B .block) f) (λ s m. refl))
+
+heading-reads : (p l n : ℕ) → p ≤ 8 → l ≤ 24 → n ≤ 63 → Reads heading (record { params = p; locals = l; blocks = n }) (p ∷ l ∷ n ∷ [])
+unfolding heading
+heading-reads p l n a b c =
+    reads-bind (count 0 8) (λ p s m. andThen (count 0 24 s m) (λ l m₂. andThen (count 0 63 s m₂) (λ n m₃. read (record { params = p; locals = l; blocks = n }) m₃))) (reads-count 0 8 p (omega arith) a)
+    (reads-bind (count 0 24) (λ l s m. andThen (count 0 63 s m) (λ n m₃. read (record { params = p; locals = l; blocks = n }) m₃)) (reads-count 0 24 l (omega arith) b)
+    (reads-map (count 0 63) (λ n s m. read (record { params = p; locals = l; blocks = n }) m) (reads-count 0 63 n (omega arith) c) (λ s m. refl)))
+
+function-reads : (F : Function) → FunctionInRange F → Reads function F (functionBytes F)
+unfolding function
+function-reads F r =
+    reads-bind heading (λ h s m. andThen (block s m) (λ b k. andThen (many (h .blocks) labelled s k) (λ bs j. read (record { params = h .params; locals = h .locals; entry = b; blocks = bs }) j)))
+    (heading-reads (F .params) (F .locals) (length (F .blocks)) (r .params) (r .locals) (r .blocks))
+    (reads-bind block (λ b s k. andThen (many (length (F .blocks)) labelled s k) (λ bs j. read (record { params = F .params; locals = F .locals; entry = b; blocks = bs }) j))
+    (block-reads (F .entry) (r .entryValues))
+    (reads-map (many (length (F .blocks)) labelled) (λ bs s j. read (record { params = F .params; locals = F .locals; entry = F .entry; blocks = bs }) j)
+    (reads-many labelled labelledBytes (F .blocks) (λ i d h. labelled-reads (getD (F .blocks) i d) (all-at (λ B. ValuesFit (B .block)) (F .blocks) (r .blockValues) i d h)))
+    (λ s m. refl)))
+
+pub reads-program : (P : Program) → InRange P → program (writing P) 0 ≡ read P (length (writing P))
+unfolding program writing
+reads-program P r =
+    let s : List ℕ = 83 ∷ 80 ∷ 70 ∷ 1 ∷ 0 ∷ length P ∷ joined functionBytes P in
+    let a = reads-marked spf .reads s 0 (1 ∷ 0 ∷ length P ∷ joined functionBytes P) refl in
+    let b = reads-version .reads s 3 (length P ∷ joined functionBytes P) refl in
+    let c = reads-count 1 32 (length P) (r .some) (r .most) .reads s 5 (joined functionBytes P) refl in
+    let d = reads-many function functionBytes P (λ i e h. function-reads (getD P i e) (all-at FunctionInRange P (r .functions) i e h)) .reads s 6 [] (sym (append-nil (joined functionBytes P))) in
+    let n : 6 + length (joined functionBytes P) ≡ length s = omega arith in
+    rw (a, b, c, d, n, reads-ended s (length s) (omega arith))

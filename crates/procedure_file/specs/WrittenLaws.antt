@@ -1,0 +1,240 @@
+-- The file that was read is the writing of its program.
+use Prim.Native.Nat.{ℕ, zero, suc, _+_, _*_, _/_, _%_, _^_, _≤_, _<_}
+use mathlib.Core.Path.{_≡_, refl, sym, ap, _∙_}
+use mathlib.Core.List.{List, [], _∷_, _++_, append-nil}
+use native.Mathlib.Omega.{arith}
+use lib.IntN.{ℤ}
+use lib.ListN.{length, getD, take, drop, take-append-drop, length-drop, drop-of-length-le}
+use lib.Seq.{length-take-le, drop-drop, drop-length}
+use mir.Syntax.{w32}
+use mir.Val.{toZ, ofZ, Fits, SFits}
+use mir.Facts.{ofZ-toZ, sfits-toZ}
+use Rattle.parsing.specs.Parser.{Parsed, read, refuse, andThen, many, joined}
+use Rattle.parsing.specs.Fields.{byte, marked, version, count, ended, valueOf, valueAt}
+use Rattle.parsing.specs.ParserLaws.{both, ReadMany, none, one, read-many, read-byte, read-count}
+use Rattle.parsing.specs.WroteLaws.{Wrote, wrote-join, wrote-cons, wrote-byte, span, wrote-span, wrote-many, wrote-marked, wrote-version, read-ended}
+use Rattle.semantics.specs.Program.{Block, constant, copy, difference, call, goto, return, branch, raise, Labelled, Function, Program}
+use Rattle.semantics.specs.WellFormed.{All}
+use Rattle.procedure_file.specs.Layout.{spf, argumentsAt, block, labelled, Heading, heading, function, program}
+use Rattle.procedure_file.specs.Writing.{valueBytes, blockBytes, labelledBytes, functionBytes, writing, ValuesFit, FunctionInRange, InRange}
+use Rattle.procedure_file.specs.Accepted.{Bytes}
+use Rattle.procedure_file.specs.Rest.{restFrom, restAt}
+use Rattle.procedure_file.specs.OperationLaws.{operation-1, operation-2, operation-3, operation-4, operation-end, constant-in, copy-in, difference-in, call-in, goto-in, return-in, branch-in, end-5, end-6, end-7, end-8}
+use Rattle.procedure_file.specs.WalkLaws.{rest-law}
+use Rattle.procedure_file.specs.LayoutLaws.{HeadingAt, read-heading}
+use Rattle.procedure_file.specs.BlockLaws.{ReadBlock, readConstant, readCopy, readDifference, readCall, readGoto, readReturn, readBranch, readRaise, read-block}
+
+-- The bytes of the value of four bytes are those.
+module _ (a b c d : ℕ) (a-byte : a < 256) (b-byte : b < 256) (c-byte : c < 256) (d-byte : d < 256) where
+  abbrev bits : ℕ
+  bits = a + 256 * b + 65536 * c + 16777216 * d
+
+  fits : Fits w32 bits
+  fits = record { fits = omega arith }
+
+  pub value-back : valueBytes (valueOf a b c d) ≡ a ∷ b ∷ c ∷ d ∷ []
+  unfolding valueOf
+  value-back =
+      rw (ofZ-toZ {w = w32} {n = bits} fits)
+      (go (omega arith) (omega arith) (omega arith) (omega arith))
+    where
+      go : {x y z w : ℕ} → x ≡ a → y ≡ b → z ≡ c → w ≡ d → x ∷ y ∷ z ∷ w ∷ [] ≡ a ∷ b ∷ c ∷ d ∷ []
+      go p q r t = cc
+
+  pub value-range : SFits w32 (valueOf a b c d)
+  unfolding valueOf
+  value-range = sfits-toZ {w = w32} {n = bits} fits
+
+module _ (s : List ℕ) (bytes : Bytes s) where
+  -- The value behind an operation byte and a variable, by its bytes.
+  value-at : (at : ℕ) → valueAt s (at + 2) ≡ valueOf (getD s (at + 2) 0) (getD s (at + 3) 0) (getD s (at + 4) 0) (getD s (at + 5) 0)
+  value-at at =
+      let p : at + 2 + 1 ≡ at + 3 = omega arith in
+      let q : at + 2 + 2 ≡ at + 4 = omega arith in
+      let r : at + 2 + 3 ≡ at + 5 = omega arith in
+      rw (p, q, r)
+
+  value-bytes : (at : ℕ) → valueBytes (valueAt s (at + 2)) ≡ getD s (at + 2) 0 ∷ getD s (at + 3) 0 ∷ getD s (at + 4) 0 ∷ getD s (at + 5) 0 ∷ []
+  value-bytes at = ap valueBytes (value-at at) ∙ value-back _ _ _ _ (bytes (at + 2)) (bytes (at + 3)) (bytes (at + 4)) (bytes (at + 5))
+
+  pub value-fits : (at : ℕ) → SFits w32 (valueAt s (at + 2))
+  value-fits at = rw (value-at at) (value-range _ _ _ _ (bytes (at + 2)) (bytes (at + 3)) (bytes (at + 4)) (bytes (at + 5)))
+
+  -- The operation byte and its operands.
+  operands : (at k n : ℕ) → getD s at 0 ≡ k → at + (1 + n) ≤ length s → Wrote s at (at + (1 + n)) (k ∷ span s at 1 n)
+  operands at k n e h = rw (← e) (wrote-cons s (omega arith) (wrote-span s at 1 n h))
+
+  wrote-arguments : (at n : ℕ) → at + n ≤ length s → Wrote s at (at + n) (take n (drop at s))
+  wrote-arguments at n h =
+      let l = length-drop at s in
+      record {
+        stands = sym (take-append-drop n (drop at s)) ∙ ap (λ (r : List ℕ). take n (drop at s) ++ r) (drop-drop n at s);
+        past = ap (λ (k : ℕ). at + k) (sym (length-take-le n (drop at s) (omega arith)));
+      }
+
+  pub arguments-length : (at n : ℕ) → at + 4 + n ≤ length s → length (argumentsAt s at n) ≡ n
+  arguments-length at n h = let l = length-drop (at + 4) s in length-take-le n (drop (at + 4) s) (omega arith)
+
+  pub wrote-block : {at next : ℕ} {b : Block} → ReadBlock s at b next → Wrote s at next (blockBytes b)
+  wrote-block (readConstant {at} {next} {b} e h r) =
+      let w : Wrote s at (at + 6) (1 ∷ getD s (at + 1) 0 ∷ valueBytes (valueAt s (at + 2))) = rw (value-bytes at) (operands at 1 5 e h) in
+      wrote-join s w (wrote-block r)
+  wrote-block (readCopy {at} e h r) = wrote-join s (operands at 2 2 e h) (wrote-block r)
+  wrote-block (readDifference {at} e h r) = wrote-join s (operands at 3 3 e h) (wrote-block r)
+  wrote-block (readCall {at} {next} {b} e h r) =
+      let n = getD s (at + 3) 0 in
+      let o : Wrote s at (at + 4) (4 ∷ getD s (at + 1) 0 ∷ getD s (at + 2) 0 ∷ n ∷ []) = operands at 4 3 e (omega arith) in
+      let a : Wrote s (at + 4) (at + 4 + n) (argumentsAt s at n) = wrote-arguments (at + 4) n h in
+      rw (arguments-length at n h) (wrote-join s o (wrote-join s a (wrote-block r)))
+  wrote-block (readGoto {at} e h) = operands at 5 1 e h
+  wrote-block (readReturn {at} e h) = operands at 6 1 e h
+  wrote-block (readBranch {at} e h) = operands at 7 4 e h
+  wrote-block (readRaise {at} e h) = rw (← e) (wrote-byte s at (omega arith))
+
+  pub fit-block : {at next : ℕ} {b : Block} → ReadBlock s at b next → ValuesFit b
+  fit-block (readConstant {at} e h r) = (value-fits at, fit-block r)
+  fit-block (readCopy e h r) = fit-block r
+  fit-block (readDifference e h r) = fit-block r
+  fit-block (readCall e h r) = fit-block r
+  fit-block (readGoto e h) = tt
+  fit-block (readReturn e h) = tt
+  fit-block (readBranch e h) = tt
+  fit-block (readRaise e h) = tt
+
+-- A labelled block that was read.
+pub record ReadLabelled (s : List ℕ) (at : ℕ) (B : Labelled) (next : ℕ) : Type 0 where
+  pub inside : at < length s
+  pub handlerIs : B .handler ≡ getD s at 0
+  pub block : ReadBlock s (at + 1) (B .block) next
+
+pub read-labelled : (s : List ℕ) (at : ℕ) (B : Labelled) (next : ℕ) → labelled s at ≡ read B next → ReadLabelled s at B next
+unfolding labelled
+read-labelled s at B next e =
+    let x = both (byte s at) (λ h m. andThen (block s m) (λ b k. read (record { handler = h; block = b }) k)) e in
+    let y = both (block s (x .middle)) (λ b k. read (record { handler = x .first; block = b }) k) (x .follows) in
+    let z = read-byte s at (x .reads) in
+    go (x .first) (y .first) (x .middle) (y .middle) (y .follows) (z .inside) (z .is) (z .past) (y .reads)
+  where
+    go : (h : ℕ) (b : Block) (m k : ℕ) → read (record { handler = h; block = b }) k ≡ read B next → at < length s → h ≡ getD s at 0 → m ≡ at + 1
+        → block s m ≡ read b k → ReadLabelled s at B next
+    go h b m k w i j p r =
+        let e : record { handler = h; block = b } ≡ B = cc in
+        let n : k ≡ next = cc in
+        rw (← e, ← n) (record { inside = i; handlerIs = j; block = read-block s (at + 1) (rw p at r) })
+
+-- A function that was read.
+pub record ReadFunction (s : List ℕ) (at : ℕ) (F : Function) (next : ℕ) : Type 0 where
+  pub here : HeadingAt s at (record { params = F .params; locals = F .locals; blocks = length (F .blocks) })
+  pub middle : ℕ
+  pub entry : ReadBlock s (at + 3) (F .entry) middle
+  pub labels : ReadMany labelled s middle (F .blocks) next
+
+pub read-function : (s : List ℕ) (at : ℕ) (F : Function) (next : ℕ) → function s at ≡ read F next → ReadFunction s at F next
+unfolding function
+read-function s at F next e =
+    let x = both (heading s at) (λ h m. andThen (block s m) (λ b k. andThen (many (h .blocks) labelled s k) (λ bs j. read (record { params = h .params; locals = h .locals; entry = b; blocks = bs }) j))) e in
+    let y = both (block s (x .middle)) (λ b k. andThen (many (x .first .blocks) labelled s k) (λ bs j. read (record { params = x .first .params; locals = x .first .locals; entry = b; blocks = bs }) j)) (x .follows) in
+    let z = both (many (x .first .blocks) labelled s (y .middle)) (λ bs j. read (record { params = x .first .params; locals = x .first .locals; entry = y .first; blocks = bs }) j) (y .follows) in
+    let h = read-heading s at (x .first) (x .middle) (x .reads) in
+    let l = read-many labelled s (x .first .blocks) (y .middle) (z .reads) in
+    go (x .first) (y .first) (z .first) (x .middle) (y .middle) (z .middle) (z .follows) (h .0) (h .1) (y .reads) (l .0) (l .1)
+  where
+    go : (h : Heading) (b : Block) (bs : List Labelled) (m k j : ℕ)
+        → read (record { params = h .params; locals = h .locals; entry = b; blocks = bs }) j ≡ read F next
+        → HeadingAt s at h → m ≡ at + 3 → block s m ≡ read b k → ReadMany labelled s k bs j → length bs ≡ h .blocks → ReadFunction s at F next
+    go h b bs m k j w i p r l n =
+        let e : record { params = h .params; locals = h .locals; entry = b; blocks = bs } ≡ F = cc in
+        let q : j ≡ next = cc in
+        rw (← e, ← q) (record { here = rw n i; middle = k; entry = read-block s (at + 3) (rw p at r); labels = l })
+
+-- A program that was read.
+pub record ReadProgram (s : List ℕ) (P : Program) : Type 0 where
+  pub head : Wrote s 0 6 (83 ∷ 80 ∷ 70 ∷ 1 ∷ 0 ∷ length P ∷ [])
+  pub least : 1 ≤ length P
+  pub most : length P ≤ 32
+  pub functions : ReadMany function s 6 P (length s)
+
+-- An end that was not passed.
+wrote-end : (s : List ℕ) (next : ℕ) (w : List ℕ) → Wrote s 6 next w → 6 ≤ length s → length s ≤ next → next ≡ length s
+wrote-end s next w a h k =
+    let l : length (drop 6 s) ≡ length w =
+    ap length (a .stands ∙ ap (λ (r : List ℕ). w ++ r) (drop-of-length-le s k) ∙ append-nil w) in
+    omega (arith, l, length-drop 6 s, a .past)
+
+module _ (s : List ℕ) (bytes : Bytes s) where
+  pub wrote-labelled : (at : ℕ) (B : Labelled) (next : ℕ) → labelled s at ≡ read B next → Wrote s at next (labelledBytes B)
+  wrote-labelled at B next e =
+      let r = read-labelled s at B next e in
+      rw (r .handlerIs) (wrote-cons s (r .inside) (wrote-block s bytes (r .block)))
+
+  pub wrote-function : (at : ℕ) (F : Function) (next : ℕ) → function s at ≡ read F next → Wrote s at next (functionBytes F)
+  wrote-function at F next e =
+      let r = read-function s at F next e in
+      let h = r .here in
+      let o : Wrote s at (at + 3) (F .params ∷ F .locals ∷ length (F .blocks) ∷ []) =
+      rw (h .localsAre, h .blocksAre) (operands s bytes at (F .params) 2 (sym (h .paramsAre)) (h .inside)) in
+      wrote-join s o
+      (wrote-join s (wrote-block s bytes (r .entry)) (wrote-many labelled labelledBytes s wrote-labelled (r .labels)))
+
+  pub read-program : (P : Program) (next : ℕ) → program s 0 ≡ read P next → ReadProgram s P
+  unfolding program
+  read-program P next e =
+      let a = both (marked spf s 0) (λ u m₁. andThen (version s m₁) (λ v m₂. andThen (count 1 32 s m₂) (λ n m₃. andThen (many n function s m₃) (λ fs m₄. andThen (ended s m₄) (λ w m₅. read fs m₅))))) e in
+      let b = both (version s (a .middle)) (λ v m₂. andThen (count 1 32 s m₂) (λ n m₃. andThen (many n function s m₃) (λ fs m₄. andThen (ended s m₄) (λ w m₅. read fs m₅)))) (a .follows) in
+      let c = both (count 1 32 s (b .middle)) (λ n m₃. andThen (many n function s m₃) (λ fs m₄. andThen (ended s m₄) (λ w m₅. read fs m₅))) (b .follows) in
+      let d = both (many (c .first) function s (c .middle)) (λ fs m₄. andThen (ended s m₄) (λ w m₅. read fs m₅)) (c .follows) in
+      let f = both (ended s (d .middle)) (λ w m₅. read (d .first) m₅) (d .follows) in
+      go (a .middle) (b .middle) (c .first) (c .middle) (d .first) (d .middle) (f .middle) (wrote-marked s spf 0 (a .reads)) (wrote-version s (a .middle) (b .reads)) (c .reads) (d .reads)
+      (read-ended s (d .middle) (f .reads) .0) (f .follows)
+    where
+      go : (m₁ m₂ n m₃ : ℕ) (fs : List Function) (m₄ m₅ : ℕ) → Wrote s 0 m₁ spf → Wrote s m₁ m₂ (1 ∷ 0 ∷ []) → count 1 32 s m₂ ≡ read n m₃
+          → many n function s m₃ ≡ read fs m₄ → length s ≤ m₄ → read fs m₅ ≡ read P next → ReadProgram s P
+      go m₁ m₂ n m₃ fs m₄ m₅ x y z w l v =
+          let p : fs ≡ P = cc in
+          let k = read-count 1 32 s m₂ z in
+          let q = read-many function s n m₃ w in
+          let e₂ : m₂ ≡ 5 = omega (arith, x .past, y .past) in
+          let e₃ : m₃ ≡ 6 = omega (arith, k .byte .past) in
+          let r : ReadMany function s 6 P m₄ = rw (← e₃, ← p) (q .0) in
+          let j : length P ≡ n = rw (← p) (q .1) in
+          let u = wrote-many function functionBytes s wrote-function r in
+          let i : 6 ≤ length s = omega (arith, k .byte .inside) in
+          let o : m₄ ≡ length s = wrote-end s m₄ (joined functionBytes P) u i l in
+          let g : Wrote s 5 6 (getD s 5 0 ∷ []) = wrote-byte s 5 (omega arith) in
+          let nb : getD s 5 0 ≡ length P = ap (λ (t : ℕ). getD s t 0) (sym e₂) ∙ sym (k .byte .is) ∙ sym j in
+          record {
+            head = wrote-join s (wrote-join s x (rw e₂ at y)) (rw nb at g);
+            least = omega (arith, k .least);
+            most = omega (arith, k .most);
+            functions = rw o at r;
+          }
+
+  -- The file is the writing of the program that was read.
+  pub written : (P : Program) → ReadProgram s P → s ≡ writing P
+  unfolding writing
+  written P r =
+      let w = wrote-join s (r .head) (wrote-many function functionBytes s wrote-function (r .functions)) in
+      w .stands ∙ ap (λ (l : List ℕ). (83 ∷ 80 ∷ 70 ∷ 1 ∷ 0 ∷ length P ∷ joined functionBytes P) ++ l) (drop-length s) ∙ append-nil _
+
+  -- Its counts and values are in range.
+  labels-fit : {at next : ℕ} {Bs : List Labelled} → ReadMany labelled s at Bs next → All (λ B. ValuesFit (B .block)) Bs
+  labels-fit (none) = tt
+  labels-fit (one {at} {middle} {next} {a = B} e r) = (fit-block s bytes (read-labelled s at B middle e .block), labels-fit r)
+
+  function-range : (at : ℕ) (F : Function) (next : ℕ) → function s at ≡ read F next → FunctionInRange F
+  function-range at F next e =
+      let r = read-function s at F next e in
+      record {
+        params = r .here .fewParams;
+        locals = r .here .fewLocals;
+        blocks = r .here .fewBlocks;
+        entryValues = fit-block s bytes (r .entry);
+        blockValues = labels-fit (r .labels);
+      }
+
+  functions-range : {at next : ℕ} {Fs : List Function} → ReadMany function s at Fs next → All FunctionInRange Fs
+  functions-range (none) = tt
+  functions-range (one {at} {middle} {next} {a = F} e r) = (function-range at F middle e, functions-range r)
+
+  pub in-range : (P : Program) → ReadProgram s P → InRange P
+  in-range P r = record { some = r .least; most = r .most; functions = functions-range (r .functions) }
