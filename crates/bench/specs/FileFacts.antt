@@ -8,7 +8,7 @@ use Rattle.semantics.specs.Program.{FunctionNumber, Labelled, Function, Program
 use Rattle.semantics.specs.WellFormed.{WellFormed}
 use Rattle.procedure_file.specs.Facts.{Facts, Stands}
 use Rattle.procedure_file.specs.Check.{programOf}
-use Rattle.procedure_file.specs.Rest.{restAt}
+use Rattle.procedure_layout.specs.Rest.{restAt}
 
 abbrev pub functionAt : List ℕ → FunctionNumber → Function
 functionAt s f = functionOf (programOf s) f

@@ -25,12 +25,12 @@ use Rattle.memory.specs.Lay.{lay}
 use Rattle.memory.specs.Frame.{slot, headOf, HeadFits, frameWords, valuesOf}
 use Rattle.memory.specs.LayLaws.{length-lay, length-part, drop-lay}
 use Rattle.memory.specs.FrameLaws.{frame-values, slot-same, pushed, pushed-head, pushed-fits, pushed-values, pushed-below, pushed-past, pushed-long, pushed-value}
-use Rattle.procedure_file.specs.declared.operation.Operation.{Operation}
-use Rattle.procedure_file.specs.declared.operation.Operation.the-variants.{Call, Return, Raise}
-use Rattle.procedure_file.specs.Operation.{operationAt}
-use Rattle.procedure_file.specs.Layout.{argumentsAt}
+use Rattle.procedure_layout.specs.declared.operation.Operation.{Operation}
+use Rattle.procedure_layout.specs.declared.operation.Operation.the-variants.{Call, Return, Raise}
+use Rattle.procedure_layout.specs.Operation.{operationAt}
+use Rattle.procedure_layout.specs.Layout.{argumentsAt}
 use Rattle.procedure_file.specs.Check.{programOf}
-use Rattle.procedure_file.specs.Rest.{restAt}
+use Rattle.procedure_layout.specs.Rest.{restAt}
 use Rattle.bench.specs.declared.step.Regs.{Regs}
 use Rattle.bench.specs.declared.step.Step.{Step}
 use Rattle.bench.specs.declared.step.Step.the-variants.{Next, Value, Uncaught, Deep}

@@ -9,3 +9,5 @@ pub mod RunningLaws
 pub mod LoadedLaws
 pub mod GuardLaws
 pub mod ArgumentLaws
+pub mod Finished
+pub mod TurnLaws

@@ -14,8 +14,8 @@ use lib.IntN.{ℤ, pos}
 use lib.ListN.{length, getD, set, take, drop, replicate, length-map, length-take}
 use lib.Seq.{length-take-le}
 use Rattle.semantics.specs.Value.{atMost}
-use Rattle.procedure_file.specs.declared.operation.Operation.the-variants.{Goto, Branch, Return, Raise, Call}
-use Rattle.procedure_file.specs.Operation.{operationAt}
+use Rattle.procedure_layout.specs.declared.operation.Operation.the-variants.{Goto, Branch, Return, Raise, Call}
+use Rattle.procedure_layout.specs.Operation.{operationAt}
 use Rattle.bench.specs.declared.step.Regs.{Regs}
 use Rattle.bench.specs.declared.step.Step.the-variants.{Next, Value, Uncaught, Deep}
 use Rattle.bench.specs.FileFacts.{functionAt, varsOf, Loaded}

@@ -12,7 +12,7 @@ use Rattle.semantics.specs.WellFormed.{WellFormedState}
 use Rattle.memory.specs.declared.Head.{Head}
 use Rattle.memory.specs.Frame.{slot, headOf, HeadFits, valuesOf}
 use Rattle.procedure_file.specs.Check.{programOf}
-use Rattle.procedure_file.specs.Rest.{restAt}
+use Rattle.procedure_layout.specs.Rest.{restAt}
 use Rattle.bench.specs.declared.step.Regs.{Regs}
 use Rattle.bench.specs.declared.step.Step.{Step}
 use Rattle.bench.specs.declared.step.Step.the-variants.{Next, Value, Uncaught, Deep}

@@ -5,10 +5,10 @@ use mathlib.Core.List.{List}
 use lib.IntN.{ℤ, pos}
 use lib.ListN.{getD, set}
 use Rattle.semantics.specs.Value.{minus}
-use Rattle.procedure_file.specs.declared.operation.Operation.the-variants.{Constant, Copy, Difference, Refused}
-use Rattle.procedure_file.specs.declared.operation.Operation.{Operation}
+use Rattle.procedure_layout.specs.declared.operation.Operation.the-variants.{Constant, Copy, Difference, Refused}
+use Rattle.procedure_layout.specs.declared.operation.Operation.{Operation}
 use Rattle.parsing.specs.declared.Refusal.{Refusal}
-use Rattle.procedure_file.specs.Operation.{operationAt}
+use Rattle.procedure_layout.specs.Operation.{operationAt}
 use Rattle.bench.specs.declared.step.Regs.{Regs}
 use Rattle.bench.specs.declared.step.Step.the-variants.{Next}
 use Rattle.procedure_file.specs.Facts.{Stands}

@@ -8,13 +8,13 @@ use lib.ListN.{length, getD, getElem?}
 use Rattle.semantics.specs.Program.{Labelled, functionOf}
 use Rattle.semantics.specs.ListLaws.{at-below, getD-at}
 use Rattle.parsing.specs.declared.Refusal.{Refusal}
-use Rattle.procedure_file.specs.declared.operation.Operation.{Operation}
-use Rattle.procedure_file.specs.declared.operation.Operation.the-variants.{Constant, Copy, Difference, Call, Goto, Return, Branch, Raise, Refused}
-use Rattle.procedure_file.specs.declared.layout.After.{After}
-use Rattle.procedure_file.specs.Operation.{operationAt}
+use Rattle.procedure_layout.specs.declared.operation.Operation.{Operation}
+use Rattle.procedure_layout.specs.declared.operation.Operation.the-variants.{Constant, Copy, Difference, Call, Goto, Return, Branch, Raise, Refused}
+use Rattle.procedure_layout.specs.declared.layout.After.{After}
+use Rattle.procedure_layout.specs.Operation.{operationAt}
 use Rattle.procedure_file.specs.Check.{programOf}
-use Rattle.procedure_file.specs.Rest.{restAt, restFrom}
-use Rattle.procedure_file.specs.After.{afterOf}
+use Rattle.procedure_layout.specs.Rest.{restAt, restFrom}
+use Rattle.procedure_layout.specs.After.{afterOf}
 use Rattle.procedure_file.specs.Places.{startOf, blockOf, handlerOf, noLabelled}
 use Rattle.procedure_file.specs.Facts.{Facts, Stands}
 use Rattle.procedure_file.specs.Tables.{Tables, BlockEntry, CountEntry}

@@ -20,11 +20,11 @@ use Rattle.semantics.specs.ListLaws.{at-getD}
 use Rattle.semantics.specs.SlotLaws.{given-some}
 use Rattle.semantics.specs.FollowCall.{step-wellFormed}
 use Rattle.memory.specs.Frame.{slot}
-use Rattle.procedure_file.specs.declared.operation.Operation.{Operation}
-use Rattle.procedure_file.specs.declared.operation.Operation.the-variants.{Constant, Copy, Difference, Call, Goto, Return, Branch, Raise, Refused}
-use Rattle.procedure_file.specs.Operation.{operationAt}
+use Rattle.procedure_layout.specs.declared.operation.Operation.{Operation}
+use Rattle.procedure_layout.specs.declared.operation.Operation.the-variants.{Constant, Copy, Difference, Call, Goto, Return, Branch, Raise, Refused}
+use Rattle.procedure_layout.specs.Operation.{operationAt}
 use Rattle.procedure_file.specs.Check.{programOf}
-use Rattle.procedure_file.specs.Rest.{restAt}
+use Rattle.procedure_layout.specs.Rest.{restAt}
 use Rattle.bench.specs.declared.step.Regs.{Regs}
 use Rattle.bench.specs.declared.step.Step.{Step}
 use Rattle.bench.specs.declared.step.Step.the-variants.{Next, Value, Uncaught, Deep}

@@ -1,2 +1,3 @@
 // The bench machine.
+pub mod machine;
 pub mod step;

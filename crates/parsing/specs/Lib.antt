@@ -5,3 +5,5 @@ pub mod FieldLaws
 pub mod ParserLaws
 pub mod WroteLaws
 pub mod ReadsLaws
+pub mod Bytes
+pub mod BytesLaws

@@ -7,7 +7,7 @@ use lib.ListN.{length, getD}
 use Rattle.parsing.specs.Parser.{accepted}
 use Rattle.semantics.specs.Program.{Program}
 use Rattle.semantics.specs.WellFormed.{WellFormed}
-use Rattle.procedure_file.specs.Writing.{writing, InRange}
+use Rattle.procedure_names.specs.Writing.{writing, InRange}
 use Rattle.procedure_file.specs.Check.{checkOf, programOf}
 
 -- A list of bytes.

@@ -9,14 +9,14 @@ use lib.Dec.{leb}
 use lib.ListN.{length, getD}
 use Rattle.parsing.specs.Parser.{Parsed, read, refuse, Verdict, accepted, refused}
 use Rattle.semantics.specs.Program.{Program}
-use Rattle.procedure_file.specs.Layout.{program}
-use Rattle.procedure_file.specs.Writing.{writing, InRange}
-use Rattle.procedure_file.specs.Names.{namesOf, firstWrong}
+use Rattle.procedure_layout.specs.Layout.{program}
+use Rattle.procedure_names.specs.Writing.{writing, InRange}
+use Rattle.procedure_names.specs.Names.{namesOf, firstWrong}
 use Rattle.procedure_file.specs.Check.{named, checkOf, programRead, programOf}
 use Rattle.procedure_file.specs.Accepted.{Bytes, HasFile, Acceptance}
 use Rattle.procedure_file.specs.WrittenLaws.{ReadProgram, read-program, written, in-range}
 use Rattle.procedure_file.specs.ReadsBackLaws.{reads-program}
-use Rattle.procedure_file.specs.NamesLaws.{names-right, names-formed}
+use Rattle.procedure_names.specs.NamesLaws.{names-right, names-formed}
 
 abbrev impossible : {A : Type 0} → _≡_ {A = ℕ} 0 1 → A
 impossible o = absurd (omega arith)

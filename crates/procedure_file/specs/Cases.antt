@@ -5,9 +5,9 @@ use mathlib.Core.List.{List, [], _∷_, _++_, map}
 use lib.ListN.{take, set}
 use Rattle.parsing.specs.Parser.{Verdict, accepted, refused, Parsed, read, refuse, andThen, refusal}
 use Rattle.parsing.specs.Fields.{version, count, ended, valueOf}
-use Rattle.procedure_file.specs.Operation.{operationAt, constantAt, copyAt, differenceAt, callAt, gotoAt, returnAt, branchAt, endAt}
-use Rattle.procedure_file.specs.Layout.{walk, block, labelled, heading, function, program}
-use Rattle.procedure_file.specs.Names.{namesOf}
+use Rattle.procedure_layout.specs.Operation.{operationAt, constantAt, copyAt, differenceAt, callAt, gotoAt, returnAt, branchAt, endAt}
+use Rattle.procedure_layout.specs.Layout.{walk, block, labelled, heading, function, program}
+use Rattle.procedure_names.specs.Names.{namesOf}
 use Rattle.procedure_file.specs.Check.{checkOf}
 
 -- File T.

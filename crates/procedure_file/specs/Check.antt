@@ -7,8 +7,8 @@ use lib.Dec.{leb}
 use lib.ListN.{length}
 use Rattle.semantics.specs.Program.{Program}
 use Rattle.parsing.specs.Parser.{Parsed, read, refuse, Verdict, accepted, refused}
-use Rattle.procedure_file.specs.Layout.{program}
-use Rattle.procedure_file.specs.Names.{namesOf, firstWrong}
+use Rattle.procedure_layout.specs.Layout.{program}
+use Rattle.procedure_names.specs.Names.{namesOf, firstWrong}
 
 -- Names are judged once the layout is whole.
 abbrev pub named : Parsed Program → Verdict

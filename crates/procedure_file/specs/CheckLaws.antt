@@ -8,8 +8,8 @@ use Rattle.parsing.specs.declared.Scan.the-variants.{Past, Stopped}
 use Rattle.parsing.specs.Parser.{Parsed, read, refuse, pastOf, Verdict, accepted, refused}
 use Rattle.parsing.specs.ParserLaws.{past-read, past-refuse}
 use Rattle.semantics.specs.Program.{Program}
-use Rattle.procedure_file.specs.Layout.{program}
-use Rattle.procedure_file.specs.Names.{namesOf, firstWrong}
+use Rattle.procedure_layout.specs.Layout.{program}
+use Rattle.procedure_names.specs.Names.{namesOf, firstWrong}
 use Rattle.procedure_file.specs.Check.{named, checkOf, programOf}
 use Rattle.procedure_file.specs.Accepted.{Bytes}
 use Rattle.procedure_file.specs.AcceptedLaws.{Laid, laid-by, check-layout}

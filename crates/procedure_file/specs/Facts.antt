@@ -8,14 +8,14 @@ use Rattle.parsing.specs.declared.Refusal.{Refusal}
 use Rattle.semantics.specs.Program.{Block, Labelled, Function, Program, variables, functionOf}
 use Rattle.semantics.specs.Bench.{labelledAt}
 use Rattle.semantics.specs.WellFormed.{IsLabel, WellFormed, WellFormedBlock}
-use Rattle.procedure_file.specs.declared.operation.Operation.the-variants.{Call, Refused}
-use Rattle.procedure_file.specs.declared.layout.After.the-variants.{Onward}
-use Rattle.procedure_file.specs.Operation.{operationAt}
-use Rattle.procedure_file.specs.Layout.{argumentsAt}
-use Rattle.procedure_file.specs.Writing.{blockBytes, writing, ValuesFit}
+use Rattle.procedure_layout.specs.declared.operation.Operation.the-variants.{Call, Refused}
+use Rattle.procedure_layout.specs.declared.layout.After.the-variants.{Onward}
+use Rattle.procedure_layout.specs.Operation.{operationAt}
+use Rattle.procedure_layout.specs.Layout.{argumentsAt}
+use Rattle.procedure_names.specs.Writing.{blockBytes, writing, ValuesFit}
 use Rattle.procedure_file.specs.Check.{programOf}
-use Rattle.procedure_file.specs.Rest.{restFrom, restAt}
-use Rattle.procedure_file.specs.After.{afterOf}
+use Rattle.procedure_layout.specs.Rest.{restFrom, restAt}
+use Rattle.procedure_layout.specs.After.{afterOf}
 use Rattle.procedure_file.specs.Places.{startOf, blockOf, handlerOf}
 
 -- An operation of function f stands at an offset: the bytes from there on are the writing of the rest of a block, which is well-formed.

@@ -12,26 +12,26 @@ use Rattle.parsing.specs.WroteLaws.{Wrote}
 use Rattle.semantics.specs.Program.{Block, constant, copy, difference, call, goto, return, branch, raise, Labelled, Function, Program, variables, functionOf, noFunction}
 use Rattle.semantics.specs.Bench.{labelledAt}
 use Rattle.semantics.specs.WellFormed.{All, IsLabel, WellFormed, WellFormedBlock, WellFormedLabelled, WellFormedFunction}
-use Rattle.procedure_file.specs.declared.operation.Operation.{Operation}
-use Rattle.procedure_file.specs.declared.operation.Operation.the-variants.{Constant, Copy, Difference, Call, Goto, Return, Branch, Raise, Refused}
-use Rattle.procedure_file.specs.declared.layout.After.the-variants.{Onward, Ended, Halted}
-use Rattle.procedure_file.specs.Operation.{operationAt}
-use Rattle.procedure_file.specs.Layout.{argumentsAt, block}
-use Rattle.procedure_file.specs.Writing.{blockBytes, ValuesFit}
+use Rattle.procedure_layout.specs.declared.operation.Operation.{Operation}
+use Rattle.procedure_layout.specs.declared.operation.Operation.the-variants.{Constant, Copy, Difference, Call, Goto, Return, Branch, Raise, Refused}
+use Rattle.procedure_layout.specs.declared.layout.After.the-variants.{Onward, Ended, Halted}
+use Rattle.procedure_layout.specs.Operation.{operationAt}
+use Rattle.procedure_layout.specs.Layout.{argumentsAt, block}
+use Rattle.procedure_names.specs.Writing.{blockBytes, ValuesFit}
 use Rattle.procedure_file.specs.Check.{checkOf, programOf}
-use Rattle.procedure_file.specs.Rest.{restFrom, restAt}
-use Rattle.procedure_file.specs.After.{afterOf}
+use Rattle.procedure_layout.specs.Rest.{restFrom, restAt}
+use Rattle.procedure_layout.specs.After.{afterOf}
 use Rattle.procedure_file.specs.Places.{startOf, noLabelled, blockOf, handlerOf}
 use Rattle.procedure_file.specs.Accepted.{Bytes}
 use Rattle.procedure_file.specs.Facts.{Stands, Counts, Facts}
-use Rattle.procedure_file.specs.ViewLaws.{View, isConstant, isCopy, isDifference, isCall, isGoto, isReturn, isBranch, isRaise, isRefused, view}
-use Rattle.procedure_file.specs.WalkLaws.{rest-law}
-use Rattle.procedure_file.specs.LayoutLaws.{onward-moves}
-use Rattle.procedure_file.specs.BlockLaws.{ReadBlock, readConstant, readCopy, readDifference, readCall, readGoto, readReturn, readBranch, readRaise, read-block}
+use Rattle.procedure_layout.specs.ViewLaws.{View, isConstant, isCopy, isDifference, isCall, isGoto, isReturn, isBranch, isRaise, isRefused, view}
+use Rattle.procedure_layout.specs.WalkLaws.{rest-law}
+use Rattle.procedure_layout.specs.LayoutLaws.{onward-moves}
+use Rattle.procedure_layout.specs.BlockLaws.{ReadBlock, readConstant, readCopy, readDifference, readCall, readGoto, readReturn, readBranch, readRaise, read-block}
 use Rattle.procedure_file.specs.WrittenLaws.{wrote-block, fit-block}
 use Rattle.procedure_file.specs.ReadsBackLaws.{all-at, reads-block}
 use Rattle.procedure_file.specs.AcceptedLaws.{Laid, Passed, passed, laid-by, is-writing}
-use Rattle.procedure_file.specs.NamedLaws.{call-room}
+use Rattle.procedure_names.specs.NamedLaws.{call-room}
 use Rattle.procedure_file.specs.PlacesLaws.{op-constant, op-copy, op-difference, op-call, op-goto, op-return, op-branch, op-raise, rest-is, block-inside, start-at}
 use Rattle.procedure_file.specs.FillLaws.{few-params, few-locals, few-blocks}
 

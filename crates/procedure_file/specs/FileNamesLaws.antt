@@ -10,14 +10,14 @@ use Rattle.parsing.specs.declared.Checked.{Checked}
 use Rattle.parsing.specs.declared.Checked.the-variants.{Accepted}
 use Rattle.parsing.specs.Parser.{Verdict, accepted, refused, verdictOf}
 use Rattle.semantics.specs.Program.{Block, Labelled, Function, Program, variables, functionOf, noFunction}
-use Rattle.procedure_file.specs.Writing.{blockBytes, labelledBytes, functionBytes}
-use Rattle.procedure_file.specs.Names.{Name, handler, blockNames, labelledNames, functionNames, functionsNames, arities, namesOf, firstWrong}
+use Rattle.procedure_names.specs.Writing.{blockBytes, labelledBytes, functionBytes}
+use Rattle.procedure_names.specs.Names.{Name, handler, blockNames, labelledNames, functionNames, functionsNames, arities, namesOf, firstWrong}
 use Rattle.procedure_file.specs.Check.{programOf}
-use Rattle.procedure_file.specs.Rest.{restAt}
+use Rattle.procedure_layout.specs.Rest.{restAt}
 use Rattle.procedure_file.specs.Places.{functionPlace, labelPlace, startOf, noLabelled, blockOf, handlerOf}
 use Rattle.procedure_file.specs.Tables.{slot, BlockEntry, CountEntry, BlockEntries, CountEntries, Tables}
 use Rattle.procedure_file.specs.AcceptedLaws.{Laid}
-use Rattle.procedure_file.specs.NamesLaws.{orElse, first-append, arity-of}
+use Rattle.procedure_names.specs.NamesLaws.{orElse, first-append, arity-of}
 use Rattle.procedure_file.specs.PlacesLaws.{rest-is, start-at, label-next, function-next}
 use Rattle.procedure_file.specs.FillLaws.{few-blocks, few-params, few-locals, few-functions, Given}
 

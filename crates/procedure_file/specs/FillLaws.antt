@@ -10,8 +10,8 @@ use lib.ListN.{length, getD, set, drop, length-set, length-append}
 use lib.Seq.{getD-set-same, getD-set-other}
 use Rattle.parsing.specs.Parser.{Parsed, read, refuse}
 use Rattle.semantics.specs.Program.{Block, Function, Program, functionOf}
-use Rattle.procedure_file.specs.Layout.{block}
-use Rattle.procedure_file.specs.After.{endOf}
+use Rattle.procedure_layout.specs.Layout.{block}
+use Rattle.procedure_layout.specs.After.{endOf}
 use Rattle.procedure_file.specs.Check.{programOf}
 use Rattle.procedure_file.specs.Places.{functionPlace, labelPlace, startOf, noLabelled, blockOf, handlerOf}
 use Rattle.procedure_file.specs.Tables.{slot, BlockEntry, CountEntry, BlockEntries, CountEntries, Tables}

@@ -1,30 +1,18 @@
--- Procedure files. Definitions, in reading order: Operation, Layout, Writing, Names, Check, Rest, After. Laws: the others.
-pub mod Operation
-pub mod Layout
-pub mod Writing
-pub mod Names
+-- Procedure files. Definitions, in reading order: Check, Accepted, Places, Tables, Loaded, Lookup, Facts, Cases. Laws: the others.
 pub mod Check
-pub mod Rest
-pub mod After
-pub mod Numbers
-pub mod OperationNames
 pub mod Accepted
 pub mod Places
 pub mod Tables
+pub mod Loaded
+pub mod Lookup
 pub mod Facts
 pub mod Cases
-pub mod OperationLaws
-pub mod ViewLaws
-pub mod WalkLaws
-pub mod LayoutLaws
-pub mod BlockLaws
 pub mod WrittenLaws
 pub mod ReadsBackLaws
-pub mod NamesLaws
 pub mod AcceptedLaws
-pub mod NamedLaws
 pub mod PlacesLaws
 pub mod FillLaws
 pub mod FileNamesLaws
 pub mod CheckLaws
 pub mod FactsLaws
+pub mod LookupLaws

@@ -5,7 +5,7 @@ use mathlib.Core.List.{List, []}
 use lib.ListN.{length, getD, take}
 use Rattle.parsing.specs.Parser.{joined}
 use Rattle.semantics.specs.Program.{Block, raise, Labelled, Function, Program, functionOf}
-use Rattle.procedure_file.specs.Writing.{blockBytes, labelledBytes, functionBytes}
+use Rattle.procedure_names.specs.Writing.{blockBytes, labelledBytes, functionBytes}
 
 -- Function f, behind mark, version, count and the functions before it.
 unfoldable pub functionPlace : Program → ℕ → ℕ

@@ -11,17 +11,17 @@ use Rattle.parsing.specs.Fields.{valueAt}
 use Rattle.parsing.specs.ParserLaws.{ReadMany}
 use Rattle.parsing.specs.WroteLaws.{Wrote, wrote-many, many-at}
 use Rattle.semantics.specs.Program.{Block, constant, copy, difference, call, goto, return, branch, raise, Labelled, Function, Program, noFunction, functionOf}
-use Rattle.procedure_file.specs.declared.operation.Operation.{Operation}
-use Rattle.procedure_file.specs.declared.operation.Operation.the-variants.{Constant, Copy, Difference, Call, Goto, Return, Branch, Raise, Refused}
-use Rattle.procedure_file.specs.Operation.{operationAt}
-use Rattle.procedure_file.specs.Layout.{blockFrom, before, argumentsAt, block, labelled, function}
-use Rattle.procedure_file.specs.Writing.{blockBytes, labelledBytes, functionBytes}
-use Rattle.procedure_file.specs.Rest.{restFrom, restAt}
+use Rattle.procedure_layout.specs.declared.operation.Operation.{Operation}
+use Rattle.procedure_layout.specs.declared.operation.Operation.the-variants.{Constant, Copy, Difference, Call, Goto, Return, Branch, Raise, Refused}
+use Rattle.procedure_layout.specs.Operation.{operationAt}
+use Rattle.procedure_layout.specs.Layout.{blockFrom, before, argumentsAt, block, labelled, function}
+use Rattle.procedure_names.specs.Writing.{blockBytes, labelledBytes, functionBytes}
+use Rattle.procedure_layout.specs.Rest.{restFrom, restAt}
 use Rattle.procedure_file.specs.Accepted.{Bytes}
 use Rattle.procedure_file.specs.Places.{functionPlace, labelPlace, startOf, noLabelled, blockOf, handlerOf}
-use Rattle.procedure_file.specs.OperationLaws.{operation-1, operation-2, operation-3, operation-4, constant-in, copy-in, difference-in, call-in, goto-in, return-in, branch-in, end-5, end-6, end-7, end-8}
-use Rattle.procedure_file.specs.WalkLaws.{block-law, rest-law}
-use Rattle.procedure_file.specs.BlockLaws.{ReadBlock, readConstant, readCopy, readDifference, readCall, readGoto, readReturn, readBranch, readRaise, read-block}
+use Rattle.procedure_layout.specs.OperationLaws.{operation-1, operation-2, operation-3, operation-4, constant-in, copy-in, difference-in, call-in, goto-in, return-in, branch-in, end-5, end-6, end-7, end-8}
+use Rattle.procedure_layout.specs.WalkLaws.{block-law, rest-law}
+use Rattle.procedure_layout.specs.BlockLaws.{ReadBlock, readConstant, readCopy, readDifference, readCall, readGoto, readReturn, readBranch, readRaise, read-block}
 use Rattle.procedure_file.specs.WrittenLaws.{wrote-block, wrote-labelled, wrote-function, ReadLabelled, read-labelled, ReadFunction, read-function, ReadProgram}
 use Rattle.procedure_file.specs.ReadsBackLaws.{operation-ends}
 

@@ -14,13 +14,13 @@ use Rattle.parsing.specs.Fields.{byte, marked, version, count, ended, valueOf, 
 use Rattle.parsing.specs.ReadsLaws.{Reads, behind, byte-here, first-here, length-here, next-here, reads-bind, reads-map, reads-many, reads-byte, reads-count, reads-marked, reads-version, reads-ended}
 use Rattle.semantics.specs.Program.{Block, constant, copy, difference, call, goto, return, branch, raise, Labelled, Function, Program}
 use Rattle.semantics.specs.WellFormed.{All}
-use Rattle.procedure_file.specs.declared.operation.Operation.{Operation}
-use Rattle.procedure_file.specs.declared.operation.Operation.the-variants.{Constant, Copy, Difference, Call, Goto, Return, Branch, Raise, Refused}
-use Rattle.procedure_file.specs.Operation.{operationAt, endAt}
-use Rattle.procedure_file.specs.Layout.{spf, argumentsAt, blockFrom, before, block, labelled, Heading, heading, function, program}
-use Rattle.procedure_file.specs.Writing.{valueBytes, blockBytes, labelledBytes, functionBytes, writing, ValuesFit, FunctionInRange, InRange}
-use Rattle.procedure_file.specs.OperationLaws.{operation-1, operation-2, operation-3, operation-4, operation-end, constant-in, copy-in, difference-in, call-in, goto-in, return-in, branch-in, end-5, end-6, end-7, end-8}
-use Rattle.procedure_file.specs.WalkLaws.{block-law}
+use Rattle.procedure_layout.specs.declared.operation.Operation.{Operation}
+use Rattle.procedure_layout.specs.declared.operation.Operation.the-variants.{Constant, Copy, Difference, Call, Goto, Return, Branch, Raise, Refused}
+use Rattle.procedure_layout.specs.Operation.{operationAt, endAt}
+use Rattle.procedure_layout.specs.Layout.{spf, argumentsAt, blockFrom, before, block, labelled, Heading, heading, function, program}
+use Rattle.procedure_names.specs.Writing.{valueBytes, blockBytes, labelledBytes, functionBytes, writing, ValuesFit, FunctionInRange, InRange}
+use Rattle.procedure_layout.specs.OperationLaws.{operation-1, operation-2, operation-3, operation-4, operation-end, constant-in, copy-in, difference-in, call-in, goto-in, return-in, branch-in, end-5, end-6, end-7, end-8}
+use Rattle.procedure_layout.specs.WalkLaws.{block-law}
 
 -- What holds of every element holds of each.
 pub all-at : {A : Type 0} (Q : A → Type 0) (as′ : List A) → All Q as′ → (i : ℕ) (d : A) → i < length as′ → Q (getD as′ i d)

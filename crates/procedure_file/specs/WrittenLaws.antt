@@ -15,14 +15,14 @@ use Rattle.parsing.specs.ParserLaws.{both, ReadMany, none, one, read-many, read
 use Rattle.parsing.specs.WroteLaws.{Wrote, wrote-join, wrote-cons, wrote-byte, span, wrote-span, wrote-many, wrote-marked, wrote-version, read-ended}
 use Rattle.semantics.specs.Program.{Block, constant, copy, difference, call, goto, return, branch, raise, Labelled, Function, Program}
 use Rattle.semantics.specs.WellFormed.{All}
-use Rattle.procedure_file.specs.Layout.{spf, argumentsAt, block, labelled, Heading, heading, function, program}
-use Rattle.procedure_file.specs.Writing.{valueBytes, blockBytes, labelledBytes, functionBytes, writing, ValuesFit, FunctionInRange, InRange}
+use Rattle.procedure_layout.specs.Layout.{spf, argumentsAt, block, labelled, Heading, heading, function, program}
+use Rattle.procedure_names.specs.Writing.{valueBytes, blockBytes, labelledBytes, functionBytes, writing, ValuesFit, FunctionInRange, InRange}
 use Rattle.procedure_file.specs.Accepted.{Bytes}
-use Rattle.procedure_file.specs.Rest.{restFrom, restAt}
-use Rattle.procedure_file.specs.OperationLaws.{operation-1, operation-2, operation-3, operation-4, operation-end, constant-in, copy-in, difference-in, call-in, goto-in, return-in, branch-in, end-5, end-6, end-7, end-8}
-use Rattle.procedure_file.specs.WalkLaws.{rest-law}
-use Rattle.procedure_file.specs.LayoutLaws.{HeadingAt, read-heading}
-use Rattle.procedure_file.specs.BlockLaws.{ReadBlock, readConstant, readCopy, readDifference, readCall, readGoto, readReturn, readBranch, readRaise, read-block}
+use Rattle.procedure_layout.specs.Rest.{restFrom, restAt}
+use Rattle.procedure_layout.specs.OperationLaws.{operation-1, operation-2, operation-3, operation-4, operation-end, constant-in, copy-in, difference-in, call-in, goto-in, return-in, branch-in, end-5, end-6, end-7, end-8}
+use Rattle.procedure_layout.specs.WalkLaws.{rest-law}
+use Rattle.procedure_layout.specs.LayoutLaws.{HeadingAt, read-heading}
+use Rattle.procedure_layout.specs.BlockLaws.{ReadBlock, readConstant, readCopy, readDifference, readCall, readGoto, readReturn, readBranch, readRaise, read-block}
 
 -- The bytes of the value of four bytes are those.
 module _ (a b c d : ℕ) (a-byte : a < 256) (b-byte : b < 256) (c-byte : c < 256) (d-byte : d < 256) where

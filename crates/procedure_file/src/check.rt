@@ -1,14 +1,14 @@
 // The checker of procedure files.
-use crate::layout;
-use crate::names;
 use crate::tables;
 use parsing::Checked;
 use parsing::Refusal;
 use parsing::Scan;
+use procedure_layout::layout;
+use procedure_names::names;
 ghost use mathlib.Core.Path.{_≡_};
 ghost use Prim.Native.Nat.{_<_};
 ghost use Rattle.parsing.specs.Parser.{verdictOf};
-ghost use Rattle.procedure_file.specs.Names.{namesOf, firstWrong};
+ghost use Rattle.procedure_names.specs.Names.{namesOf, firstWrong};
 ghost use Rattle.procedure_file.specs.Check.{checkOf, programOf};
 ghost use Rattle.procedure_file.specs.AcceptedLaws.{Laid};
 ghost use Rattle.procedure_file.specs.FileNamesLaws.{labelledVerdict, Naming, functionVerdict, NamingAll};

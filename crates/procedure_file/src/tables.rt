@@ -1,11 +1,11 @@
 // The tables of a file whose layout is whole.
-use crate::layout;
 use parsing::Scan;
+use procedure_layout::layout;
 ghost use mathlib.Core.Path.{_≡_};
 ghost use Prim.Native.Nat.{_+_, _<_};
 ghost use lib.ListN.{length, set};
-ghost use Rattle.procedure_file.specs.Layout.{block};
-ghost use Rattle.procedure_file.specs.After.{endOf};
+ghost use Rattle.procedure_layout.specs.Layout.{block};
+ghost use Rattle.procedure_layout.specs.After.{endOf};
 ghost use Rattle.procedure_file.specs.FillLaws.{Filling, Filled, Lent, Given};
 
 // The offset past the block at an offset.

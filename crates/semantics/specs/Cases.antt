@@ -8,7 +8,7 @@ use mathlib.Core.List.{List, [], _∷_}
 use lib.IntN.{ℤ, pos, negsuc}
 use Rattle.semantics.specs.Value.{wrapped, minus, atMost}
 use Rattle.semantics.specs.Program.{constant, call, goto, return, branch, raise, Program}
-use Rattle.semantics.specs.Run.{value, uncaught, Stop, ended, spent, deep, broken, Result}
+use Rattle.semantics.specs.Run.{value, uncaught, Stop, ended, spent, deep, Result, told, oneMoreIfDeep}
 use Rattle.semantics.specs.Bench.{State, step, bench}
 use Rattle.semantics.specs.WellFormed.{All}
 use Rattle.semantics.specs.Controller.{Control, controlStep, controller}
@@ -50,20 +50,6 @@ callsThenRaises =
     }
     ∷ record { params = 0; locals = 1; entry = return 0; blocks = [] }
     ∷ []
-
--- How a run stopped, without its state.
-abbrev pub told : {S : Type 0} → Stop S → Stop (Unit {0})
-told (ended e) = ended e
-told (spent s) = spent tt
-told (deep s) = deep tt
-told (broken s) = broken tt
-
--- "The controller gets bench steps plus extras, one more where the bench stopped deep."
-abbrev pub oneMoreIfDeep : {S : Type 0} → Stop S → ℕ
-oneMoreIfDeep (ended e) = 0
-oneMoreIfDeep (spent s) = 0
-oneMoreIfDeep (deep s) = 1
-oneMoreIfDeep (broken s) = 0
 
 -- What both machines tell.
 pub record Told : Type 0 where

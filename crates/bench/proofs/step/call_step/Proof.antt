@@ -61,7 +61,7 @@ arguments-requires : tie.Need-arguments-requires
 arguments-requires c κs = call-arguments (c .before .before .before .before .before .before .before .before .before .before .before .before .before .before .before .before .before .pre .0) (c .before .before .before .before .before .before .before .before .before .before .before .before .before .before .before .before .before .pre .1 .0) (c .before .before .before .before .before .before .before .before .before .before .before .before .before .before .before .before .before .pre .1 .1 .0) (c .before .before .before .before .before .before .before .before .before .before .before .before .before .before .before .variables .ensures) (c .before .before .before .before .before .before .before .before .before .before .before .before .before .byte-number .ensures .0) (c .before .before .before .before .before .before .before .before .before .before .before .before .before .before .before .before .before .pre .1 .1 .1 .1) (c .before .before .before .push .ensures)
 
 clear-requires : tie.Need-clear-requires
-clear-requires c κs = call-clear (c .before .before .before .before .before .before .before .before .before .before .before .before .before .before .before .before .before .before .before .pre .0) (c .before .before .before .before .before .before .before .before .before .before .before .before .before .before .before .before .before .before .before .pre .1 .0) (c .before .before .before .before .before .before .before .before .before .before .before .before .before .before .before .before .before .before .before .pre .1 .1 .0) _ (c .before .before .before .before .before .before .before .before .before .before .before .before .before .before .before .byte-number .ensures .0) (c .before .before .before .before .before .before .before .before .before .before .before .before .before .byte-number2 .ensures .0) (c .before .arguments .ensures)
+clear-requires c κs = call-clear (c .before .before .before .before .before .before .before .before .before .before .before .before .before .before .before .before .before .before .before .pre .0) (c .before .before .before .before .before .before .before .before .before .before .before .before .before .before .before .before .before .before .before .pre .1 .0) (c .before .before .before .before .before .before .before .before .before .before .before .before .before .before .before .before .before .before .before .pre .1 .1 .0) (c .before .before .before .before .before .push .last .0) (c .before .before .before .before .before .before .before .before .before .before .before .before .before .before .before .byte-number .ensures .0) (c .before .before .before .before .before .before .before .before .before .before .before .before .before .byte-number2 .ensures .0) (c .before .arguments .ensures)
 
 same-length : tie.Need-same-length
 same-length c = search needs

@@ -5,10 +5,6 @@ use mathlib.Core.Path.{_≡_, refl, sym, ap, _∙_}
 use borrow.Author.Needs.{needs}
 use Rattle.procedure_file.proofs.check.check.Statement.{statement}
 use Rattle.procedure_file.proofs.check.check.Tie as tie
-use Rattle.procedure_file.proofs.check.check.Reads as reads
-use Rattle.procedure_file.proofs.check.check.Lts as lts
-use Rattle.procedure_file.proofs.check.names_checked.Reads as names-checked-reads
-use Rattle.procedure_file.proofs.layout.layout_end.Reads as layout-end-reads
 
 -- src/check.rt:128:9
 returns : tie.Need-returns

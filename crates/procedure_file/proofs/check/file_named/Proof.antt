@@ -6,9 +6,6 @@ use native.Mathlib.Omega.{arith}
 use mathlib.Core.Path.{_≡_, refl, sym, ap, _∙_}
 use Rattle.procedure_file.proofs.check.file_named.Statement.{statement}
 use Rattle.procedure_file.proofs.check.file_named.Tie as tie
-use Rattle.procedure_file.proofs.check.file_named.Reads as reads
-use Rattle.procedure_file.proofs.check.file_named.Lts as lts
-use Rattle.procedure_file.proofs.check.function_named.Reads as function-named-reads
 
 abbrev Inv-loop : tie.InvT-loop
 Inv-loop file starts handlers params locals blocks f₀ f = functionsVerdict params file f ≡ functionsVerdict params file 0

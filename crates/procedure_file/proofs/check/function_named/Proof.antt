@@ -5,10 +5,6 @@ use native.Mathlib.Omega.{arith}
 use mathlib.Core.Path.{_≡_, refl, sym, ap, _∙_}
 use Rattle.procedure_file.proofs.check.function_named.Statement.{statement}
 use Rattle.procedure_file.proofs.check.function_named.Tie as tie
-use Rattle.procedure_file.proofs.check.function_named.Reads as reads
-use Rattle.procedure_file.proofs.check.function_named.Lts as lts
-use Rattle.procedure_file.proofs.check.labelled_named.Reads as labelled-named-reads
-use Rattle.procedure_file.proofs.names.block_named.Reads as block-named-reads
 
 abbrev Inv-loop : tie.InvT-loop
 Inv-loop file f labels variables starts handlers params row entry l₀ l = labelsVerdict params file f labels variables l ≡ functionVerdict params file f

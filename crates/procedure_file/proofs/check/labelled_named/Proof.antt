@@ -3,9 +3,6 @@ use mathlib.Core.Path.{_≡_, refl, sym, ap, _∙_}
 use borrow.Author.Needs.{needs}
 use Rattle.procedure_file.proofs.check.labelled_named.Statement.{statement}
 use Rattle.procedure_file.proofs.check.labelled_named.Tie as tie
-use Rattle.procedure_file.proofs.check.labelled_named.Reads as reads
-use Rattle.procedure_file.proofs.check.labelled_named.Lts as lts
-use Rattle.procedure_file.proofs.names.block_named.Reads as block-named-reads
 
 -- src/check.rt:28:17
 sub-place : tie.Need-sub-place

@@ -7,10 +7,6 @@ use mathlib.Core.Path.{_≡_, refl, sym, ap, _∙_}
 use borrow.Author.Needs.{needs}
 use Rattle.procedure_file.proofs.check.names_checked.Statement.{statement}
 use Rattle.procedure_file.proofs.check.names_checked.Tie as tie
-use Rattle.procedure_file.proofs.check.names_checked.Reads as reads
-use Rattle.procedure_file.proofs.check.names_checked.Lts as lts
-use Rattle.procedure_file.proofs.check.file_named.Reads as file-named-reads
-use Rattle.procedure_file.proofs.tables.fill.Reads as fill-reads
 
 -- src/check.rt:114:9
 slice-aggregate-fill : tie.Need-slice-aggregate-fill

@@ -1,12 +1,9 @@
-use Rattle.procedure_file.specs.Layout.{block}
-use Rattle.procedure_file.specs.LayoutLaws.{end-past, end-stopped}
+use Rattle.procedure_layout.specs.Layout.{block}
+use Rattle.procedure_layout.specs.LayoutLaws.{end-past, end-stopped}
 use mathlib.Core.Path.{_≡_, refl, sym, ap, _∙_}
 use borrow.Author.Needs.{needs}
 use Rattle.procedure_file.proofs.tables.block_past.Statement.{statement}
 use Rattle.procedure_file.proofs.tables.block_past.Tie as tie
-use Rattle.procedure_file.proofs.tables.block_past.Reads as reads
-use Rattle.procedure_file.proofs.tables.block_past.Lts as lts
-use Rattle.procedure_file.proofs.layout.block_end.Reads as block-end-reads
 
 -- src/tables.rt:15:11
 block-end-requires : tie.Need-block-end-requires

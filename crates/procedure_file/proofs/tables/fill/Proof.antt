@@ -5,10 +5,6 @@ use native.Mathlib.Omega.{arith}
 use mathlib.Core.Path.{_≡_, refl, sym, ap, _∙_}
 use Rattle.procedure_file.proofs.tables.fill.Statement.{statement}
 use Rattle.procedure_file.proofs.tables.fill.Tie as tie
-use Rattle.procedure_file.proofs.tables.fill.Reads as reads
-use Rattle.procedure_file.proofs.tables.fill.Lts as lts
-use Rattle.procedure_file.proofs.tables.fill_row.Reads as fill-row-reads
-use Rattle.procedure_file.proofs.tables.put_counts.Reads as put-counts-reads
 
 abbrev Inv-loop : tie.InvT-loop
 Inv-loop file starts₀ handlers₀ params₀ locals₀ blocks₀ count at₀ f₀ starts handlers params locals blocks at f = Part file count starts handlers params locals blocks at f

@@ -5,10 +5,6 @@ use native.Mathlib.Omega.{arith}
 use mathlib.Core.Path.{_≡_, refl, sym, ap, _∙_}
 use Rattle.procedure_file.proofs.tables.fill_row.Statement.{statement}
 use Rattle.procedure_file.proofs.tables.fill_row.Tie as tie
-use Rattle.procedure_file.proofs.tables.fill_row.Reads as reads
-use Rattle.procedure_file.proofs.tables.fill_row.Lts as lts
-use Rattle.procedure_file.proofs.tables.block_past.Reads as block-past-reads
-use Rattle.procedure_file.proofs.tables.put_block.Reads as put-block-reads
 
 abbrev Inv-loop : tie.InvT-loop
 Inv-loop file f at starts₀ handlers₀ row entry count labels place₀ l₀ starts handlers place l = Row file f labels starts handlers l place

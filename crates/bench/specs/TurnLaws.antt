@@ -1,0 +1,173 @@
+-- The loop of the bench: what is left to run, as the code has it.
+use Prim.Native.Nat.{ℕ, zero, suc, _+_, _*_, _-_, _≤_, _<_}
+use native.Mathlib.Omega.{arith}
+use native.Mathlib.Nat.{add-assoc, add-zero}
+use mathlib.Core.Path.{_≡_, refl, sym, ap, _∙_, subst}
+use mathlib.Core.List.{List, [], _∷_}
+use lib.IntN.{ℤ}
+use lib.ListN.{length, drop}
+use Rattle.semantics.specs.Program.{Block, constant, copy, difference, call, goto, return, branch, raise, functionOf}
+use Rattle.semantics.specs.Run.{End, value, uncaught, Outcome, next, end, tooDeep, stuck, Stop, ended, spent, deep, Result, after, taken, added, run, total}
+use Rattle.semantics.specs.Bench.{Frame, frame, State, state, step}
+use Rattle.semantics.specs.WellFormed.{WellFormedState}
+use Rattle.semantics.specs.Extras.{caught, caughtOutside, extra}
+use Rattle.semantics.specs.RunLaws.{after-zero, after-after}
+use Rattle.procedure_file.specs.Check.{programOf}
+use Rattle.bench.specs.declared.step.Regs.{Regs}
+use Rattle.bench.specs.declared.step.Step.{Step}
+use Rattle.bench.specs.declared.step.Step.the-variants.{Next, Value, Uncaught, Deep}
+use Rattle.bench.specs.declared.machine.Stopped.{Stopped}
+use Rattle.bench.specs.declared.machine.Stopped.the-variants as S
+use Rattle.bench.specs.declared.machine.Ran.{Ran}
+use Rattle.bench.specs.FileFacts.{functionAt, Loaded}
+use Rattle.bench.specs.Machine.{stateOf, Held, Done}
+use Rattle.bench.specs.Finished.{Finished}
+
+caught-small : (fs : List Frame) → caught fs ≤ 1
+caught-small [] = omega arith
+caught-small (frame f zero b vs x ∷ fs) = caught-small fs
+caught-small (frame f (suc l) b vs x ∷ fs) = omega arith
+
+outside-small : (h : ℕ) (fs : List Frame) → caughtOutside h fs ≤ 1
+outside-small zero fs = caught-small fs
+outside-small (suc h) fs = omega arith
+
+-- A step has at most 25 extras.
+extra-small : {s starts handlers params locals : List ℕ} → Loaded s starts handlers params locals → (S : State) → WellFormedState (programOf s) S → extra (programOf s) S ≤ 25
+extra-small L (state f h (constant x i b) vs fs) w = omega arith
+extra-small L (state f h (copy x y b) vs fs) w = omega arith
+extra-small L (state f h (difference x y z b) vs fs) w = omega arith
+extra-small {s} L (state f h (call x g ys b) vs fs) w = let l : functionAt s g .locals ≤ 24 = L .localsFew g (w .0 .block .1) in omega arith
+extra-small L (state f h (goto l) vs fs) w = omega arith
+extra-small L (state f h (return x) vs fs) w = omega arith
+extra-small L (state f h (branch y z l m) vs fs) w = omega arith
+extra-small L (state f h raise vs fs) w = let l : caughtOutside h fs ≤ 1 = outside-small h fs in omega arith
+
+-- After n steps of a run with budget b that began at r₀, vs₀, words₀.
+pub record Turn (s : List ℕ) (limit b : ℕ) (r₀ : Regs) (vs₀ words₀ : List ℤ) (n : ℕ) (r : Regs) (vs words : List ℤ) : Type 0 where
+  pub held : Held s limit r vs words
+  pub few : n ≤ b
+  pub left : run (step (programOf s) limit) b (stateOf s r₀ vs₀ words₀) ≡ after n (run (step (programOf s) limit) (b - n) (stateOf s r vs words))
+  pub sum : r₀ .extras + total (step (programOf s) limit) (extra (programOf s)) b (stateOf s r₀ vs₀ words₀) ≡ r .extras + total (step (programOf s) limit) (extra (programOf s)) (b - n) (stateOf s r vs words)
+  pub small : r .extras ≤ r₀ .extras + 25 * n
+  pub kept : drop (48 * limit) words ≡ drop (48 * limit) words₀
+  pub long : length words ≡ length words₀
+
+pub turn-start : {s : List ℕ} {limit b : ℕ} {r : Regs} {vs words : List ℤ} → Held s limit r vs words → Turn s limit b r vs words 0 r vs words
+turn-start {s} {limit} {b} {r} {vs} {words} H =
+    let q : b - 0 ≡ b = omega arith in
+    record {
+      held = H;
+      few = omega arith;
+      left = sym (ap (λ (k : ℕ). after 0 (run (step (programOf s) limit) k (stateOf s r vs words))) q ∙ after-zero (run (step (programOf s) limit) b (stateOf s r vs words)));
+      sum = ap (λ (k : ℕ). r .extras + total (step (programOf s) limit) (extra (programOf s)) k (stateOf s r vs words)) (sym q);
+      small = omega arith;
+      kept = refl;
+      long = refl;
+    }
+
+module _ {s starts handlers params locals : List ℕ} (L : Loaded s starts handlers params locals) {limit b : ℕ} {r₀ : Regs} {vs₀ words₀ : List ℤ} {n : ℕ} {r : Regs} {vs words : List ℤ} (T : Turn s limit b r₀ vs₀ words₀ n r vs words) where
+  abbrev now : State
+  now = stateOf s r vs words
+
+  pub extras-small : b < 4294967296 → r₀ .extras < 4294967296 → n < b → r .extras < 9223372036854775808
+  extras-small h k l = let m : r .extras ≤ r₀ .extras + 25 * n = T .small in omega arith
+
+  -- One step of what is left, whose outcome is known.
+  module _ (l : n < b) where
+    one : b - n ≡ suc (b - (n + 1))
+    one = omega arith
+
+    run-is : (o : Outcome State) → step (programOf s) limit now ≡ o → run (step (programOf s) limit) (b - n) now ≡ taken o now (λ (U : State). run (step (programOf s) limit) (b - (n + 1)) U)
+    run-is o e = ap (λ (k : ℕ). run (step (programOf s) limit) k now) one ∙ ap (λ (x : Outcome State). taken x now (λ (U : State). run (step (programOf s) limit) (b - (n + 1)) U)) e
+
+    total-is : (o : Outcome State) → step (programOf s) limit now ≡ o → total (step (programOf s) limit) (extra (programOf s)) (b - n) now ≡ added (extra (programOf s) now) o (λ (U : State). total (step (programOf s) limit) (extra (programOf s)) (b - (n + 1)) U)
+    total-is o e = ap (λ (k : ℕ). total (step (programOf s) limit) (extra (programOf s)) k now) one ∙ ap (λ (x : Outcome State). added (extra (programOf s) now) x (λ (U : State). total (step (programOf s) limit) (extra (programOf s)) (b - (n + 1)) U)) e
+
+    pub turn-next : {q : Regs} {vs′ words′ : List ℤ} → Done s limit r vs words (Next q) vs′ words′ → Turn s limit b r₀ vs₀ words₀ (n + 1) q vs′ words′
+    turn-next {q} {vs′} {words′} D =
+        let e : extra (programOf s) now ≤ 25 = extra-small L now (T .held .good) in
+        let m : r .extras ≤ r₀ .extras + 25 * n = T .small in
+        let x : q .extras ≡ r .extras + extra (programOf s) now = D .held .1 in
+        record {
+          held = D .held .0;
+          few = omega arith;
+          left = T .left ∙ (ap (λ (y : Result State). after n y) (run-is (next (stateOf s q vs′ words′)) (sym (D .outcome))) ∙ after-after n 1 (run (step (programOf s) limit) (b - (n + 1)) (stateOf s q vs′ words′)));
+          sum = T .sum ∙ (ap (λ (k : ℕ). r .extras + k) (total-is (next (stateOf s q vs′ words′)) (sym (D .outcome))) ∙ (sym (add-assoc (r .extras) (extra (programOf s) now) (total (step (programOf s) limit) (extra (programOf s)) (b - (n + 1)) (stateOf s q vs′ words′))) ∙ ap (λ (k : ℕ). k + total (step (programOf s) limit) (extra (programOf s)) (b - (n + 1)) (stateOf s q vs′ words′)) (sym x)));
+          small = omega arith;
+          kept = D .kept ∙ T .kept;
+          long = D .long ∙ T .long;
+        }
+
+    ends : (x : End) → step (programOf s) limit now ≡ end x → run (step (programOf s) limit) b (stateOf s r₀ vs₀ words₀) ≡ record { stop = ended x; steps = n + 1 }
+    ends x e = T .left ∙ ap (λ (y : Result State). after n y) (run-is (end x) e)
+
+    ends-sum : (x : End) → step (programOf s) limit now ≡ end x → extra (programOf s) now ≡ 0 → r₀ .extras + total (step (programOf s) limit) (extra (programOf s)) b (stateOf s r₀ vs₀ words₀) ≡ r .extras
+    ends-sum x e z = T .sum ∙ (ap (λ (k : ℕ). r .extras + k) (total-is (end x) e ∙ z) ∙ add-zero (r .extras))
+
+    pub turn-value : {z : ℤ} {vs′ words′ : List ℤ} → Done s limit r vs words (Value z) vs′ words′ → Finished s limit b r₀ vs₀ words₀ (record { stopped = S.Value z; steps = n + 1; regs = r }) vs′ words′
+    turn-value {z} {vs′} {words′} D =
+        record {
+          stop = ap (λ (y : Result State). y .stop) (ends (value z) (sym (D .outcome)));
+          steps = ap (λ (y : Result State). y .steps) (ends (value z) (sym (D .outcome)));
+          extras = ends-sum (value z) (sym (D .outcome)) (D .held);
+          held = tt;
+          kept = D .kept ∙ T .kept;
+          long = D .long ∙ T .long;
+        }
+
+    pub turn-uncaught : {vs′ words′ : List ℤ} → Done s limit r vs words Uncaught vs′ words′ → Finished s limit b r₀ vs₀ words₀ (record { stopped = S.Uncaught; steps = n + 1; regs = r }) vs′ words′
+    turn-uncaught {vs′} {words′} D =
+        record {
+          stop = ap (λ (y : Result State). y .stop) (ends uncaught (sym (D .outcome)));
+          steps = ap (λ (y : Result State). y .steps) (ends uncaught (sym (D .outcome)));
+          extras = ends-sum uncaught (sym (D .outcome)) (D .held);
+          held = tt;
+          kept = D .kept ∙ T .kept;
+          long = D .long ∙ T .long;
+        }
+
+    pub turn-deep : {vs′ words′ : List ℤ} → Done s limit r vs words Deep vs′ words′ → Finished s limit b r₀ vs₀ words₀ (record { stopped = S.Deep; steps = n; regs = r }) vs′ words′
+    turn-deep {vs′} {words′} D =
+        let q : run (step (programOf s) limit) b (stateOf s r₀ vs₀ words₀) ≡ record { stop = deep now; steps = n + 0 } = T .left ∙ ap (λ (y : Result State). after n y) (run-is tooDeep (sym (D .outcome))) in
+        let ev : vs′ ≡ vs = D .held .0 in
+        let ew : words′ ≡ words = D .held .1 in
+        record {
+          stop = ap (λ (y : Result State). y .stop) q ∙ (ap (λ (us : List ℤ). deep (stateOf s r us words)) (sym ev) ∙ ap (λ (ws : List ℤ). deep (stateOf s r vs′ ws)) (sym ew));
+          steps = ap (λ (y : Result State). y .steps) q ∙ add-zero n;
+          extras = T .sum ∙ (ap (λ (k : ℕ). r .extras + k) (total-is tooDeep (sym (D .outcome))) ∙ add-zero (r .extras));
+          held = subst (λ (ws : List ℤ). Held s limit r vs′ ws) (sym ew) (subst (λ (us : List ℤ). Held s limit r us words) (sym ev) (T .held));
+          kept = D .kept ∙ T .kept;
+          long = D .long ∙ T .long;
+        }
+
+  -- The same, by the answer of a step.
+  module _ (l : n < b) {x : Step} {vs′ words′ : List ℤ} (D : Done s limit r vs words x vs′ words′) where
+    by : {y : Step} → x ≡ y → Done s limit r vs words y vs′ words′
+    by e = subst (λ (z : Step). Done s limit r vs words z vs′ words′) e D
+
+    pub on-next : {q : Regs} → x ≡ Next q → Turn s limit b r₀ vs₀ words₀ (n + 1) q vs′ words′
+    on-next e = turn-next l (by e)
+
+    pub on-value : {z y : ℤ} → x ≡ Value z → y ≡ z → Finished s limit b r₀ vs₀ words₀ (record { stopped = S.Value y; steps = n + 1; regs = r }) vs′ words′
+    on-value {z} {y} e q = subst (λ (w : ℤ). Finished s limit b r₀ vs₀ words₀ (record { stopped = S.Value w; steps = n + 1; regs = r }) vs′ words′) (sym q) (turn-value l (by e))
+
+    pub on-uncaught : x ≡ Uncaught → Finished s limit b r₀ vs₀ words₀ (record { stopped = S.Uncaught; steps = n + 1; regs = r }) vs′ words′
+    on-uncaught e = turn-uncaught l (by e)
+
+    pub on-deep : x ≡ Deep → Finished s limit b r₀ vs₀ words₀ (record { stopped = S.Deep; steps = n; regs = r }) vs′ words′
+    on-deep e = turn-deep l (by e)
+
+  pub turn-spent : b ≤ n → Finished s limit b r₀ vs₀ words₀ (record { stopped = S.Spent; steps = n; regs = r }) vs words
+  turn-spent l =
+      let f : n ≤ b = T .few in
+      let z : b - n ≡ 0 = omega arith in
+      let q : run (step (programOf s) limit) b (stateOf s r₀ vs₀ words₀) ≡ record { stop = spent now; steps = n + 0 } = T .left ∙ ap (λ (k : ℕ). after n (run (step (programOf s) limit) k now)) z in
+      record {
+        stop = ap (λ (y : Result State). y .stop) q;
+        steps = ap (λ (y : Result State). y .steps) q ∙ add-zero n;
+        extras = T .sum ∙ (ap (λ (k : ℕ). r .extras + total (step (programOf s) limit) (extra (programOf s)) k now) z ∙ add-zero (r .extras));
+        held = T .held;
+        kept = T .kept;
+        long = T .long;
+      }

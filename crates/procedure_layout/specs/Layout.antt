@@ -1,0 +1,85 @@
+-- The layout of a procedure file (document 01, 'The procedure file'): which program its bytes are, or the first refusal of 1 to 6.
+use Prim.Native.Nat.{ℕ, zero, suc, _+_}
+use mathlib.Core.List.{List, [], _∷_}
+use lib.ListN.{length, take, drop}
+use Rattle.semantics.specs.Program.{Block, constant, copy, difference, call, goto, return, branch, raise, Labelled, Function, Program}
+use Rattle.parsing.specs.Parser.{Parsed, read, refuse, Parser, give, _>>=_, many}
+use Rattle.parsing.specs.Fields.{cut, byte, marked, version, count, ended}
+use Rattle.procedure_layout.specs.declared.operation.Operation.{Operation}
+use Rattle.procedure_layout.specs.declared.operation.Operation.the-variants.{Constant, Copy, Difference, Call, Goto, Return, Branch, Raise, Refused}
+use Rattle.procedure_layout.specs.Operation.{operationAt}
+
+-- The bytes `SPF`.
+abbrev pub spf : List ℕ
+spf = 83 ∷ 80 ∷ 70 ∷ []
+
+-- What is made of the operations from an offset on: `step` says what an operation makes of what follows it. The fuel `n` never runs
+-- out where it is the file's length; `stop` is what the end of the file makes (`walk-law` in WalkLaws).
+abbrev pub walkN : {A : Type 0} → List ℕ → (ℕ → Operation → (ℕ → A) → A) → A → ℕ → ℕ → A
+walkN s step stop zero at = stop
+walkN s step stop (suc n) at = step at (operationAt s at) (walkN s step stop n)
+
+unfoldable pub walk : {A : Type 0} → List ℕ → (ℕ → Operation → (ℕ → A) → A) → A → ℕ → A
+walk s step stop at = walkN s step stop (length s) at
+
+-- The arguments of the call at an offset.
+abbrev pub argumentsAt : List ℕ → ℕ → ℕ → List ℕ
+argumentsAt s at n = take n (drop (at + 4) s)
+
+-- An operation before a block that was read.
+abbrev pub before : (Block → Block) → Parsed Block → Parsed Block
+before o (read b next) = read (o b) next
+before o (refuse r) = refuse r
+
+-- "A block is operations up to and including the first of 5 to 8."
+abbrev pub blockFrom : List ℕ → ℕ → Operation → (ℕ → Parsed Block) → Parsed Block
+blockFrom s at (Constant x i next) rest = before (constant x i) (rest next)
+blockFrom s at (Copy x y next) rest = before (copy x y) (rest next)
+blockFrom s at (Difference x y z next) rest = before (difference x y z) (rest next)
+blockFrom s at (Call x g n next) rest = before (call x g (argumentsAt s at n)) (rest next)
+blockFrom s at (Goto l next) rest = read (goto l) next
+blockFrom s at (Return x next) rest = read (return x) next
+blockFrom s at (Branch y z l m next) rest = read (branch y z l m) next
+blockFrom s at (Raise next) rest = read raise next
+blockFrom s at (Refused r) rest = refuse r
+
+unfoldable pub block : Parser Block
+block s at = walk s (blockFrom s) (refuse (cut s)) at
+
+-- "A labelled block begins with its handler byte."
+unfoldable pub labelled : Parser Labelled
+labelled = do
+  h ← byte
+  b ← block
+  give (record { handler = h; block = b })
+
+pub record Heading : Type 0 where
+  pub params : ℕ
+  pub locals : ℕ
+  pub blocks : ℕ
+
+-- "parameter count (0 to 8), local count (0 to 24), labelled block count (0 to 63)"
+unfoldable pub heading : Parser Heading
+heading = do
+  p ← count 0 8
+  l ← count 0 24
+  n ← count 0 63
+  give (record { params = p; locals = l; blocks = n })
+
+-- "Each function: ..., entry block, then the labelled blocks in order, labels 1 upward."
+unfoldable pub function : Parser Function
+function = do
+  h ← heading
+  b ← block
+  bs ← many (h .blocks) labelled
+  give (record { params = h .params; locals = h .locals; entry = b; blocks = bs })
+
+-- "Mark `SPF`, version (16 bits, 1), function count (1 to 32)", the functions, and no bytes left over.
+unfoldable pub program : Parser Program
+program = do
+  _ ← marked spf
+  _ ← version
+  n ← count 1 32
+  fs ← many n function
+  _ ← ended
+  give fs

@@ -1,0 +1,175 @@
+// The layout of a file: the refusals 1 to 6.
+use crate::operation;
+use crate::operation::Operation;
+use parsing::Count;
+use parsing::Refusal;
+use parsing::Scan;
+ghost use mathlib.Core.Path.{_≡_};
+ghost use Rattle.parsing.specs.Parser.{pastOf, many};
+ghost use Rattle.procedure_layout.specs.Layout.{block, labelled, heading, function, program};
+ghost use Rattle.procedure_layout.specs.After.{afterOf, blocksOf};
+
+// What follows an operation.
+pub enum After {
+    Onward(usize),
+    Ended(usize),
+    Halted(Refusal),
+}
+
+pub fn after_of(o: Operation) -> After
+    ensures { λ r. ⌜ r ≡ afterOf o ⌝ }
+{
+    match o {
+        Operation::Constant {
+            target: _,
+            value: _,
+            next,
+        } => After::Onward(next),
+        Operation::Copy {
+            target: _,
+            from: _,
+            next,
+        } => After::Onward(next),
+        Operation::Difference {
+            target: _,
+            left: _,
+            right: _,
+            next,
+        } => After::Onward(next),
+        Operation::Call {
+            target: _,
+            function: _,
+            count: _,
+            next,
+        } => After::Onward(next),
+        Operation::Goto { label: _, next } => After::Ended(next),
+        Operation::Return { variable: _, next } => After::Ended(next),
+        Operation::Branch {
+            left: _,
+            right: _,
+            least: _,
+            other: _,
+            next,
+        } => After::Ended(next),
+        Operation::Raise { next } => After::Ended(next),
+        Operation::Refused(r) => After::Halted(r),
+    }
+}
+
+// The end of the block whose first operation stands at `start`.
+pub fn block_end(file: &[u8], start: usize) -> Scan
+    ensures { λ r. ⌜ r ≡ pastOf (block (now (file .entry)) start) ⌝ }
+{
+    let mut at = start;
+    loop {
+        match after_of(operation::operation_at(file, at)) {
+            After::Onward(next) => {
+                at = next;
+            }
+            After::Ended(next) => {
+                return Scan::Past(next);
+            }
+            After::Halted(r) => {
+                return Scan::Stopped(r);
+            }
+        }
+    }
+}
+
+// The end of a labelled block: its handler byte, then its operations.
+pub fn labelled_end(file: &[u8], at: usize) -> Scan
+    ensures { λ r. ⌜ r ≡ pastOf (labelled (now (file .entry)) at) ⌝ }
+{
+    if file.len() <= at {
+        return Scan::Stopped(Refusal {
+            number: 3,
+            place: file.len(),
+        });
+    }
+    block_end(file, at + 1)
+}
+
+// The end of n labelled blocks.
+fn labels_end(file: &[u8], start: usize, n: usize) -> Scan
+    ensures { λ r. ⌜ r ≡ pastOf (many n labelled (now (file .entry)) start) ⌝ }
+{
+    let mut at = start;
+    let mut left = n;
+    while 0 < left {
+        left -= 1;
+        match labelled_end(file, at) {
+            Scan::Past(next) => {
+                at = next;
+            }
+            Scan::Stopped(r) => {
+                return Scan::Stopped(r);
+            }
+        }
+    }
+    Scan::Past(at)
+}
+
+// The labelled block count of the function at an offset, once its counts are in range.
+pub fn heading_at(file: &[u8], at: usize) -> Count
+    ensures { λ r. ⌜ r ≡ blocksOf (heading (now (file .entry)) at) ⌝ }
+{
+    match parsing::count_at(file, at, 0, 8) {
+        Count::Outside(r) => Count::Outside(r),
+        Count::Is(_) => match parsing::count_at(file, at + 1, 0, 24) {
+            Count::Outside(r) => Count::Outside(r),
+            Count::Is(_) => parsing::count_at(file, at + 1 + 1, 0, 63),
+        },
+    }
+}
+
+// The end of a function.
+pub fn function_end(file: &[u8], at: usize) -> Scan
+    ensures { λ r. ⌜ r ≡ pastOf (function (now (file .entry)) at) ⌝ }
+{
+    match heading_at(file, at) {
+        Count::Outside(r) => Scan::Stopped(r),
+        Count::Is(n) => match block_end(file, at + 3) {
+            Scan::Stopped(r) => Scan::Stopped(r),
+            Scan::Past(next) => labels_end(file, next, n),
+        },
+    }
+}
+
+// The end of n functions.
+fn functions_end(file: &[u8], start: usize, n: usize) -> Scan
+    ensures { λ r. ⌜ r ≡ pastOf (many n function (now (file .entry)) start) ⌝ }
+{
+    let mut at = start;
+    let mut left = n;
+    while 0 < left {
+        left -= 1;
+        match function_end(file, at) {
+            Scan::Past(next) => {
+                at = next;
+            }
+            Scan::Stopped(r) => {
+                return Scan::Stopped(r);
+            }
+        }
+    }
+    Scan::Past(at)
+}
+
+// The layout of the whole file.
+pub fn layout_end(file: &[u8]) -> Scan
+    ensures { λ r. ⌜ r ≡ pastOf (program (now (file .entry)) 0) ⌝ }
+{
+    match parsing::mark_end(file, b"SPF") {
+        Scan::Stopped(r) => Scan::Stopped(r),
+        Scan::Past(_) => match parsing::version_end(file, 3) {
+            Scan::Stopped(r) => Scan::Stopped(r),
+            Scan::Past(_) => match parsing::count_at(file, 5, 1, 32) {
+                Count::Outside(r) => Scan::Stopped(r),
+                Count::Is(n) => match functions_end(file, 6, n) {
+                    Scan::Stopped(r) => Scan::Stopped(r),
+                    Scan::Past(end) => parsing::file_end(file, end),
+                },
+            },
+        },
+    }
+}

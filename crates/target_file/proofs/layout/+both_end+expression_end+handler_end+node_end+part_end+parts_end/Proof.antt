@@ -1,0 +1,1174 @@
+use Prim.Native.Nat.{ℕ, _+_, _*_, _-_, _≤_, _<_}
+use mathlib.Core.Path.{_≡_, refl, sym, ap, _∙_}
+use native.Mathlib.Omega.{arith}
+use lib.ListN.{length}
+use borrow.Author.Needs.{needs}
+use Rattle.parsing.specs.Parser.{pastOf}
+use Rattle.target_tags.specs.Names.{bound}
+use Rattle.target_file.specs.Layout.{expression}
+use Rattle.target_file.specs.Ends.{partsEnd}
+use Rattle.target_file.specs.EndLaws.{part-cut, part-in, part-deep, part-past, handler-cut, handler-in, both-on, both-stop, node-right, node-wrong, expression-onward, expression-ended, expression-halted, onward-moves, branch-fields, continuation-fields, both-fields, branch-on, continuation-on, tag-9-on}
+use borrow.Fn.Kinds.{In}
+use borrow.Fn.PlainCycle.{Measures, is, falls, and}
+use Rattle.target_file.proofs.layout.both_end.Reads as both-end
+use Rattle.target_file.proofs.layout.both_end.Kinds as both-end-kinds
+use Rattle.target_file.proofs.layout.+both_end+expression_end+handler_end+node_end+part_end+parts_end.Lts-both_end as both-end-lts
+use Rattle.target_file.proofs.layout.expression_end.Reads as expression-end
+use Rattle.target_file.proofs.layout.expression_end.Kinds as expression-end-kinds
+use Rattle.target_file.proofs.layout.+both_end+expression_end+handler_end+node_end+part_end+parts_end.Lts-expression_end as expression-end-lts
+use Rattle.target_file.proofs.layout.handler_end.Reads as handler-end
+use Rattle.target_file.proofs.layout.handler_end.Kinds as handler-end-kinds
+use Rattle.target_file.proofs.layout.+both_end+expression_end+handler_end+node_end+part_end+parts_end.Lts-handler_end as handler-end-lts
+use Rattle.target_file.proofs.layout.node_end.Reads as node-end
+use Rattle.target_file.proofs.layout.node_end.Kinds as node-end-kinds
+use Rattle.target_file.proofs.layout.+both_end+expression_end+handler_end+node_end+part_end+parts_end.Lts-node_end as node-end-lts
+use Rattle.target_file.proofs.layout.part_end.Reads as part-end
+use Rattle.target_file.proofs.layout.part_end.Kinds as part-end-kinds
+use Rattle.target_file.proofs.layout.+both_end+expression_end+handler_end+node_end+part_end+parts_end.Lts-part_end as part-end-lts
+use Rattle.target_file.proofs.layout.parts_end.Reads as parts-end
+use Rattle.target_file.proofs.layout.parts_end.Kinds as parts-end-kinds
+use Rattle.target_file.proofs.layout.+both_end+expression_end+handler_end+node_end+part_end+parts_end.Lts-parts_end as parts-end-lts
+use Rattle.target_file.proofs.layout.cut.Reads as cut-reads
+use Rattle.target_file.proofs.layout.measured_end.Reads as measured-end-reads
+use Rattle.target_file.proofs.layout.onward.Reads as onward-reads
+use Rattle.target_file.proofs.layout.stopped.Reads as stopped-reads
+use Rattle.target_tags.proofs.names.bind.Reads as bind-reads
+use Rattle.target_tags.proofs.names.judge.Reads as judge-reads
+use Rattle.target_tags.proofs.names.tail_kinds.Reads as tail-kinds-reads
+use Rattle.target_tags.proofs.tag.pair.Reads as pair-reads
+use Rattle.target_tags.proofs.tag.tag_at.Reads as tag-at-reads
+use Rattle.target_file.proofs.layout.+both_end+expression_end+handler_end+node_end+part_end+parts_end.{
+  statement,
+}
+use Rattle.target_file.proofs.layout.+both_end+expression_end+handler_end+node_end+part_end+parts_end.Tie.{
+  close,
+}
+
+abbrev μ-both-end : Measures 2 both-end-kinds.ps ℕ
+μ-both-end κs a = 8 * (length (a .0 .now) - a .1 .1 .1 .1 .1 .0) + 2
+
+abbrev μ-expression-end : Measures 2 expression-end-kinds.ps ℕ
+μ-expression-end κs a = 8 * (length (a .0 .now) - a .1 .1 .1 .1 .1 .0) + 5
+
+abbrev μ-handler-end : Measures 2 handler-end-kinds.ps ℕ
+μ-handler-end κs a = 8 * (length (a .0 .now) - a .1 .1 .1 .1 .1 .0) + 7
+
+abbrev μ-node-end : Measures 2 node-end-kinds.ps ℕ
+μ-node-end κs a = 8 * (length (a .0 .now) - a .1 .1 .1 .1 .1 .0) + 4
+
+abbrev μ-part-end : Measures 2 part-end-kinds.ps ℕ
+μ-part-end κs a = 8 * (length (a .0 .now) - a .1 .1 .1 .1 .1 .0) + 6
+
+abbrev μ-parts-end : Measures 2 parts-end-kinds.ps ℕ
+μ-parts-end κs a = 8 * (length (a .0 .now) - a .1 .1 .1 .1 .1 .0) + 3
+
+abbrev both-end-at : ℕ → In 2 both-end-kinds.ps
+both-end-at t = and 2 both-end-kinds.ps (is 2 both-end-kinds.ps μ-both-end t) both-end.Pre
+
+abbrev both-end-below : ℕ → In 2 both-end-kinds.ps
+both-end-below t =
+    and 2 both-end-kinds.ps (falls 2 both-end-kinds.ps _<_ μ-both-end t) both-end.Pre
+
+abbrev expression-end-at : ℕ → In 2 expression-end-kinds.ps
+expression-end-at t =
+    and
+    2
+    expression-end-kinds.ps
+    (is 2 expression-end-kinds.ps μ-expression-end t)
+    expression-end.Pre
+
+abbrev expression-end-below : ℕ → In 2 expression-end-kinds.ps
+expression-end-below t =
+    and
+    2
+    expression-end-kinds.ps
+    (falls 2 expression-end-kinds.ps _<_ μ-expression-end t)
+    expression-end.Pre
+
+abbrev handler-end-at : ℕ → In 2 handler-end-kinds.ps
+handler-end-at t =
+    and 2 handler-end-kinds.ps (is 2 handler-end-kinds.ps μ-handler-end t) handler-end.Pre
+
+abbrev handler-end-below : ℕ → In 2 handler-end-kinds.ps
+handler-end-below t =
+    and 2 handler-end-kinds.ps (falls 2 handler-end-kinds.ps _<_ μ-handler-end t) handler-end.Pre
+
+abbrev node-end-at : ℕ → In 2 node-end-kinds.ps
+node-end-at t = and 2 node-end-kinds.ps (is 2 node-end-kinds.ps μ-node-end t) node-end.Pre
+
+abbrev node-end-below : ℕ → In 2 node-end-kinds.ps
+node-end-below t =
+    and 2 node-end-kinds.ps (falls 2 node-end-kinds.ps _<_ μ-node-end t) node-end.Pre
+
+abbrev part-end-at : ℕ → In 2 part-end-kinds.ps
+part-end-at t = and 2 part-end-kinds.ps (is 2 part-end-kinds.ps μ-part-end t) part-end.Pre
+
+abbrev part-end-below : ℕ → In 2 part-end-kinds.ps
+part-end-below t =
+    and 2 part-end-kinds.ps (falls 2 part-end-kinds.ps _<_ μ-part-end t) part-end.Pre
+
+abbrev parts-end-at : ℕ → In 2 parts-end-kinds.ps
+parts-end-at t = and 2 parts-end-kinds.ps (is 2 parts-end-kinds.ps μ-parts-end t) parts-end.Pre
+
+abbrev parts-end-below : ℕ → In 2 parts-end-kinds.ps
+parts-end-below t =
+    and 2 parts-end-kinds.ps (falls 2 parts-end-kinds.ps _<_ μ-parts-end t) parts-end.Pre
+
+-- src/layout.rt:226:28
+both-end-bind-requires : (t : ℕ) → both-end-lts.Need-bind-requires (
+  bind-reads.Asked,
+  bind-reads.Learnt,
+  part-end-below t,
+  part-end.Post,
+  handler-end-below t,
+  handler-end.Post,
+  onward-reads.Asked,
+  onward-reads.Learnt,
+) (both-end-at t) both-end.Post
+both-end-bind-requires t c κs = tt
+
+-- src/layout.rt:226:9
+both-end-bind-requires-2 : (t : ℕ) → both-end-lts.Need-bind-requires-2 (
+  bind-reads.Asked,
+  bind-reads.Learnt,
+  part-end-below t,
+  part-end.Post,
+  handler-end-below t,
+  handler-end.Post,
+  onward-reads.Asked,
+  onward-reads.Learnt,
+) (both-end-at t) both-end.Post
+both-end-bind-requires-2 t c κs = tt
+
+-- src/layout.rt:227:66
+both-end-add-part-end : (t : ℕ) → both-end-lts.Need-add-part-end (
+  bind-reads.Asked,
+  bind-reads.Learnt,
+  part-end-below t,
+  part-end.Post,
+  handler-end-below t,
+  handler-end.Post,
+  onward-reads.Asked,
+  onward-reads.Learnt,
+) (both-end-at t) both-end.Post
+both-end-add-part-end t c = let p = c .before .before .before .before .pre .1 in omega (arith, p .0, p .1 .0, p .1 .1)
+
+-- src/layout.rt:227:11
+both-end-part-end-requires : (t : ℕ) → both-end-lts.Need-part-end-requires (
+  bind-reads.Asked,
+  bind-reads.Learnt,
+  part-end-below t,
+  part-end.Post,
+  handler-end-below t,
+  handler-end.Post,
+  onward-reads.Asked,
+  onward-reads.Learnt,
+) (both-end-at t) both-end.Post
+both-end-part-end-requires t c κs = let q = c .before .before .before .before .pre .0 in let p = c .before .before .before .before .pre .1 in (omega (arith, q, p .1 .0, p .1 .1), p .0)
+
+-- src/layout.rt:228:20
+both-end-enum-known-middle : (t : ℕ) → both-end-lts.Need-enum-known-middle (
+  bind-reads.Asked,
+  bind-reads.Learnt,
+  part-end-below t,
+  part-end.Post,
+  handler-end-below t,
+  handler-end.Post,
+  onward-reads.Asked,
+  onward-reads.Learnt,
+) (both-end-at t) both-end.Post
+both-end-enum-known-middle t c = search needs
+
+-- src/layout.rt:228:38
+both-end-handler-end-requires : (t : ℕ) → both-end-lts.Need-handler-end-requires (
+  bind-reads.Asked,
+  bind-reads.Learnt,
+  part-end-below t,
+  part-end.Post,
+  handler-end-below t,
+  handler-end.Post,
+  onward-reads.Asked,
+  onward-reads.Learnt,
+) (both-end-at t) both-end.Post
+both-end-handler-end-requires t c κs = let q = c .before .before .before .before .before .before .before .before .pre .0 in let p = c .before .before .before .before .before .before .before .before .pre .1 in let w = part-past _ _ _ _ _ _ _ _ _ (sym (c .before .before .before .part-end .ensures) ∙ c .before .middle .given .1) in (omega (arith, q, p .1 .0, p .1 .1, w .fills), p .0)
+
+-- src/layout.rt:228:31
+both-end-onward-requires : (t : ℕ) → both-end-lts.Need-onward-requires (
+  bind-reads.Asked,
+  bind-reads.Learnt,
+  part-end-below t,
+  part-end.Post,
+  handler-end-below t,
+  handler-end.Post,
+  onward-reads.Asked,
+  onward-reads.Learnt,
+) (both-end-at t) both-end.Post
+both-end-onward-requires t c κs = tt
+
+-- src/layout.rt:229:23
+both-end-enum-known-r : (t : ℕ) → both-end-lts.Need-enum-known-r (
+  bind-reads.Asked,
+  bind-reads.Learnt,
+  part-end-below t,
+  part-end.Post,
+  handler-end-below t,
+  handler-end.Post,
+  onward-reads.Asked,
+  onward-reads.Learnt,
+) (both-end-at t) both-end.Post
+both-end-enum-known-r t c = search needs
+
+-- src/layout.rt:209:1
+both-end-returns : (t : ℕ) → both-end-lts.Need-returns (
+  bind-reads.Asked,
+  bind-reads.Learnt,
+  part-end-below t,
+  part-end.Post,
+  handler-end-below t,
+  handler-end.Post,
+  onward-reads.Asked,
+  onward-reads.Learnt,
+) (both-end-at t) both-end.Post
+both-end-returns t c = both-on _ _ _ _ _ _ _ _ _ _ _ (c .before .before .before .before .before .before .bind2 .ensures ∙ ap (λ l. bound l (c .before .before .before .before .before .before .before .before .before .before .args .handler) 3) (c .before .before .before .before .before .before .before .bind .ensures)) _ (sym (c .before .before .before .before .before .part-end .ensures) ∙ c .before .before .before .middle .given .1) (c .onward .ensures) (c .before .handler-end .ensures)
+
+-- src/layout.rt:209:1
+both-end-returns-2 : (t : ℕ) → both-end-lts.Need-returns-2 (
+  bind-reads.Asked,
+  bind-reads.Learnt,
+  part-end-below t,
+  part-end.Post,
+  handler-end-below t,
+  handler-end.Post,
+  onward-reads.Asked,
+  onward-reads.Learnt,
+) (both-end-at t) both-end.Post
+both-end-returns-2 t c = both-stop _ _ _ _ _ _ _ _ _ _ _ (c .before .before .before .before .bind2 .ensures ∙ ap (λ l. bound l (c .before .before .before .before .before .before .before .before .args .handler) 3) (c .before .before .before .before .before .bind .ensures)) _ (sym (c .before .before .before .part-end .ensures) ∙ c .before .r .given .1)
+
+abbrev expression-end-Inv-loop : expression-end-lts.InvT-loop
+expression-end-Inv-loop file params names level start at₀ seen₀ at seen =
+    (start ≤ at) × (at ≤ length file) × (pastOf (expression names params level seen file at) ≡ pastOf (expression names params level seen₀ file start))
+
+abbrev expression-end-μ-loop : expression-end-lts.MeasureT-loop
+expression-end-μ-loop file params names level start at₀ seen₀ at seen = length file - at
+
+-- src/layout.rt:83:5
+expression-end-loop-holds : (t : ℕ) → expression-end-lts.Need-loop-holds (
+  tag-at-reads.Asked,
+  tag-at-reads.Learnt,
+  node-end-below t,
+  node-end.Post,
+  tail-kinds-reads.Asked,
+  tail-kinds-reads.Learnt,
+) (expression-end-at t) expression-end.Post expression-end-Inv-loop expression-end-μ-loop
+expression-end-loop-holds t c = (omega arith, c .before .before .pre .1 .1, refl)
+
+-- src/layout.rt:84:13
+expression-end-tag-at-requires : (t : ℕ) → expression-end-lts.Need-tag-at-requires (
+  tag-at-reads.Asked,
+  tag-at-reads.Learnt,
+  node-end-below t,
+  node-end.Post,
+  tail-kinds-reads.Asked,
+  tail-kinds-reads.Learnt,
+) (expression-end-at t) expression-end.Post expression-end-Inv-loop expression-end-μ-loop
+expression-end-tag-at-requires t c κs = tt
+
+-- src/layout.rt:85:15
+expression-end-node-end-requires : (t : ℕ) → expression-end-lts.Need-node-end-requires (
+  tag-at-reads.Asked,
+  tag-at-reads.Learnt,
+  node-end-below t,
+  node-end.Post,
+  tail-kinds-reads.Asked,
+  tail-kinds-reads.Learnt,
+) (expression-end-at t) expression-end.Post expression-end-Inv-loop expression-end-μ-loop
+expression-end-node-end-requires t c κs = let q = c .before .before .before .before .pre .0 in let p = c .before .before .before .before .pre .1 in let v = c .before .loop .inv in (omega (arith, q, v .0, v .1), (p .0, record { small = omega (arith, p .0, v .1); is = c .tag-at .ensures }))
+
+-- src/layout.rt:86:27
+expression-end-enum-known-next : (t : ℕ) → expression-end-lts.Need-enum-known-next (
+  tag-at-reads.Asked,
+  tag-at-reads.Learnt,
+  node-end-below t,
+  node-end.Post,
+  tail-kinds-reads.Asked,
+  tail-kinds-reads.Learnt,
+) (expression-end-at t) expression-end.Post expression-end-Inv-loop expression-end-μ-loop
+expression-end-enum-known-next t c = search needs
+
+-- src/layout.rt:87:21
+expression-end-tail-kinds-requires : (t : ℕ) → expression-end-lts.Need-tail-kinds-requires (
+  tag-at-reads.Asked,
+  tag-at-reads.Learnt,
+  node-end-below t,
+  node-end.Post,
+  tail-kinds-reads.Asked,
+  tail-kinds-reads.Learnt,
+) (expression-end-at t) expression-end.Post expression-end-Inv-loop expression-end-μ-loop
+expression-end-tail-kinds-requires t c κs = tt
+
+-- src/layout.rt:83:5
+expression-end-loop-less : (t : ℕ) → expression-end-lts.Need-loop-less (
+  tag-at-reads.Asked,
+  tag-at-reads.Learnt,
+  node-end-below t,
+  node-end.Post,
+  tail-kinds-reads.Asked,
+  tail-kinds-reads.Learnt,
+) (expression-end-at t) expression-end.Post expression-end-Inv-loop expression-end-μ-loop
+expression-end-loop-less t c = let m = onward-moves _ _ _ _ _ _ (c .before .before .before .before .before .tag-at .ensures) (c .before .before .before .before .node-end .ensures) _ (c .before .before .next .given .1) in omega (arith, m .here, m .forward)
+
+-- src/layout.rt:83:5
+expression-end-loop-again : (t : ℕ) → expression-end-lts.Need-loop-again (
+  tag-at-reads.Asked,
+  tag-at-reads.Learnt,
+  node-end-below t,
+  node-end.Post,
+  tail-kinds-reads.Asked,
+  tail-kinds-reads.Learnt,
+) (expression-end-at t) expression-end.Post expression-end-Inv-loop expression-end-μ-loop
+expression-end-loop-again t c = let m = onward-moves _ _ _ _ _ _ (c .before .before .before .before .before .tag-at .ensures) (c .before .before .before .before .node-end .ensures) _ (c .before .before .next .given .1) in let v = c .before .before .before .before .before .before .loop .inv in (omega (arith, v .0, m .forward), m .inside, expression-onward _ _ _ _ _ _ (c .before .before .before .before .before .tag-at .ensures) (c .before .before .before .before .node-end .ensures) _ _ (c .before .before .next .given .1) (c .tail-kinds .ensures) ∙ v .2)
+
+-- src/layout.rt:91:26
+expression-end-enum-known-next-2 : (t : ℕ) → expression-end-lts.Need-enum-known-next-2 (
+  tag-at-reads.Asked,
+  tag-at-reads.Learnt,
+  node-end-below t,
+  node-end.Post,
+  tail-kinds-reads.Asked,
+  tail-kinds-reads.Learnt,
+) (expression-end-at t) expression-end.Post expression-end-Inv-loop expression-end-μ-loop
+expression-end-enum-known-next-2 t c = search needs
+
+-- src/layout.rt:92:17
+expression-end-returns : (t : ℕ) → expression-end-lts.Need-returns (
+  tag-at-reads.Asked,
+  tag-at-reads.Learnt,
+  node-end-below t,
+  node-end.Post,
+  tail-kinds-reads.Asked,
+  tail-kinds-reads.Learnt,
+) (expression-end-at t) expression-end.Post expression-end-Inv-loop expression-end-μ-loop
+expression-end-returns t c = expression-ended _ _ _ _ _ _ (c .before .before .before .before .tag-at .ensures) (c .before .before .before .node-end .ensures) _ (c .before .next2 .given .1) ∙ c .before .before .before .before .before .loop .inv .2
+
+-- src/layout.rt:94:27
+expression-end-enum-known-r : (t : ℕ) → expression-end-lts.Need-enum-known-r (
+  tag-at-reads.Asked,
+  tag-at-reads.Learnt,
+  node-end-below t,
+  node-end.Post,
+  tail-kinds-reads.Asked,
+  tail-kinds-reads.Learnt,
+) (expression-end-at t) expression-end.Post expression-end-Inv-loop expression-end-μ-loop
+expression-end-enum-known-r t c = search needs
+
+-- src/layout.rt:95:17
+expression-end-returns-2 : (t : ℕ) → expression-end-lts.Need-returns-2 (
+  tag-at-reads.Asked,
+  tag-at-reads.Learnt,
+  node-end-below t,
+  node-end.Post,
+  tail-kinds-reads.Asked,
+  tail-kinds-reads.Learnt,
+) (expression-end-at t) expression-end.Post expression-end-Inv-loop expression-end-μ-loop
+expression-end-returns-2 t c = expression-halted _ _ _ _ _ _ (c .before .before .before .before .tag-at .ensures) (c .before .before .before .node-end .ensures) _ (c .before .r .given .1) ∙ c .before .before .before .before .before .loop .inv .2
+
+-- src/layout.rt:246:9
+handler-end-cut-requires : (t : ℕ) → handler-end-lts.Need-cut-requires (
+  cut-reads.Asked,
+  cut-reads.Learnt,
+  pair-reads.Asked,
+  pair-reads.Learnt,
+  part-end-below t,
+  part-end.Post,
+) (handler-end-at t) handler-end.Post
+handler-end-cut-requires t c κs = tt
+
+-- src/layout.rt:246:9
+handler-end-returns : (t : ℕ) → handler-end-lts.Need-returns (
+  cut-reads.Asked,
+  cut-reads.Learnt,
+  pair-reads.Asked,
+  pair-reads.Learnt,
+  part-end-below t,
+  part-end.Post,
+) (handler-end-at t) handler-end.Post
+handler-end-returns t c = let h = c .before .if1 .taken in c .cut .ensures ∙ handler-cut _ _ _ _ _ _ (omega arith)
+
+-- src/layout.rt:248:17
+handler-end-add-start : (t : ℕ) → handler-end-lts.Need-add-start (
+  cut-reads.Asked,
+  cut-reads.Learnt,
+  pair-reads.Asked,
+  pair-reads.Learnt,
+  part-end-below t,
+  part-end.Post,
+) (handler-end-at t) handler-end.Post
+handler-end-add-start t c = search needs
+
+-- src/layout.rt:250:9
+handler-end-cut-requires-2 : (t : ℕ) → handler-end-lts.Need-cut-requires-2 (
+  cut-reads.Asked,
+  cut-reads.Learnt,
+  pair-reads.Asked,
+  pair-reads.Learnt,
+  part-end-below t,
+  part-end.Post,
+) (handler-end-at t) handler-end.Post
+handler-end-cut-requires-2 t c κs = tt
+
+-- src/layout.rt:250:9
+handler-end-returns-2 : (t : ℕ) → handler-end-lts.Need-returns-2 (
+  cut-reads.Asked,
+  cut-reads.Learnt,
+  pair-reads.Asked,
+  pair-reads.Learnt,
+  part-end-below t,
+  part-end.Post,
+) (handler-end-at t) handler-end.Post
+handler-end-returns-2 t c = c .cut2 .ensures ∙ handler-cut _ _ _ _ _ _ (c .before .if2 .taken)
+
+-- src/layout.rt:252:26
+handler-end-shared-slice-read-pair : (t : ℕ) → handler-end-lts.Need-shared-slice-read-pair (
+  cut-reads.Asked,
+  cut-reads.Learnt,
+  pair-reads.Asked,
+  pair-reads.Learnt,
+  part-end-below t,
+  part-end.Post,
+) (handler-end-at t) handler-end.Post
+handler-end-shared-slice-read-pair t c = search needs
+
+-- src/layout.rt:252:41
+handler-end-add-pair : (t : ℕ) → handler-end-lts.Need-add-pair (
+  cut-reads.Asked,
+  cut-reads.Learnt,
+  pair-reads.Asked,
+  pair-reads.Learnt,
+  part-end-below t,
+  part-end.Post,
+) (handler-end-at t) handler-end.Post
+handler-end-add-pair t c = search needs
+
+-- src/layout.rt:252:36
+handler-end-shared-slice-read-pair-2 : (t : ℕ) → handler-end-lts.Need-shared-slice-read-pair-2 (
+  cut-reads.Asked,
+  cut-reads.Learnt,
+  pair-reads.Asked,
+  pair-reads.Learnt,
+  part-end-below t,
+  part-end.Post,
+) (handler-end-at t) handler-end.Post
+handler-end-shared-slice-read-pair-2 t c = search needs
+
+-- src/layout.rt:252:9
+handler-end-pair-requires : (t : ℕ) → handler-end-lts.Need-pair-requires (
+  cut-reads.Asked,
+  cut-reads.Learnt,
+  pair-reads.Asked,
+  pair-reads.Learnt,
+  part-end-below t,
+  part-end.Post,
+) (handler-end-at t) handler-end.Post
+handler-end-pair-requires t c κs = tt
+
+-- src/layout.rt:253:5
+handler-end-part-end-requires : (t : ℕ) → handler-end-lts.Need-part-end-requires (
+  cut-reads.Asked,
+  cut-reads.Learnt,
+  pair-reads.Asked,
+  pair-reads.Learnt,
+  part-end-below t,
+  part-end.Post,
+) (handler-end-at t) handler-end.Post
+handler-end-part-end-requires t c κs = let q = c .before .before .before .before .before .before .before .pre .0 in (omega (arith, q), c .before .before .before .before .before .before .before .pre .1)
+
+-- src/layout.rt:234:1
+handler-end-returns-3 : (t : ℕ) → handler-end-lts.Need-returns-3 (
+  cut-reads.Asked,
+  cut-reads.Learnt,
+  pair-reads.Asked,
+  pair-reads.Learnt,
+  part-end-below t,
+  part-end.Post,
+) (handler-end-at t) handler-end.Post
+handler-end-returns-3 t c = c .part-end .ensures ∙ handler-in _ _ _ _ _ _ _ (c .before .before .before .before .if2 .left) (c .before .pair .ensures)
+
+-- src/layout.rt:115:11
+node-end-judge-requires : (t : ℕ) → node-end-lts.Need-judge-requires (
+  judge-reads.Asked,
+  judge-reads.Learnt,
+  parts-end-below t,
+  parts-end.Post,
+) (node-end-at t) node-end.Post
+node-end-judge-requires t c κs = c .before .before .pre .1 .1
+
+-- src/layout.rt:116:30
+node-end-enum-told : (t : ℕ) → node-end-lts.Need-enum-told (
+  judge-reads.Asked,
+  judge-reads.Learnt,
+  parts-end-below t,
+  parts-end.Post,
+) (node-end-at t) node-end.Post
+node-end-enum-told t c = search needs
+
+-- src/layout.rt:116:30
+node-end-parts-end-requires : (t : ℕ) → node-end-lts.Need-parts-end-requires (
+  judge-reads.Asked,
+  judge-reads.Learnt,
+  parts-end-below t,
+  parts-end.Post,
+) (node-end-at t) node-end.Post
+node-end-parts-end-requires t c κs = let q = c .before .before .before .before .before .pre .0 in (omega (arith, q), c .before .before .before .before .before .pre .1)
+
+-- src/layout.rt:117:26
+node-end-enum-known-r : (t : ℕ) → node-end-lts.Need-enum-known-r (
+  judge-reads.Asked,
+  judge-reads.Learnt,
+  parts-end-below t,
+  parts-end.Post,
+) (node-end-at t) node-end.Post
+node-end-enum-known-r t c = search needs
+
+-- src/layout.rt:102:1
+node-end-returns : (t : ℕ) → node-end-lts.Need-returns (
+  judge-reads.Asked,
+  judge-reads.Learnt,
+  parts-end-below t,
+  parts-end.Post,
+) (node-end-at t) node-end.Post
+node-end-returns t c = node-right _ _ _ _ _ _ _ (c .before .before .before .judge .ensures) (c .before .enum-told .given .1) (c .parts-end .ensures)
+
+-- src/layout.rt:102:1
+node-end-returns-2 : (t : ℕ) → node-end-lts.Need-returns-2 (
+  judge-reads.Asked,
+  judge-reads.Learnt,
+  parts-end-below t,
+  parts-end.Post,
+) (node-end-at t) node-end.Post
+node-end-returns-2 t c = node-wrong _ _ _ _ _ _ _ (c .before .before .before .judge .ensures) _ (c .before .r .given .1)
+
+-- src/layout.rt:271:9
+part-end-cut-requires : (t : ℕ) → part-end-lts.Need-cut-requires (
+  cut-reads.Asked,
+  cut-reads.Learnt,
+  expression-end-below t,
+  expression-end.Post,
+  measured-end-reads.Asked,
+  measured-end-reads.Learnt,
+  stopped-reads.Asked,
+  stopped-reads.Learnt,
+) (part-end-at t) part-end.Post
+part-end-cut-requires t c κs = tt
+
+-- src/layout.rt:271:9
+part-end-returns : (t : ℕ) → part-end-lts.Need-returns (
+  cut-reads.Asked,
+  cut-reads.Learnt,
+  expression-end-below t,
+  expression-end.Post,
+  measured-end-reads.Asked,
+  measured-end-reads.Learnt,
+  stopped-reads.Asked,
+  stopped-reads.Learnt,
+) (part-end-at t) part-end.Post
+part-end-returns t c = c .cut .ensures ∙ part-cut _ _ _ _ _ _ _ _ (c .before .if1 .taken)
+
+-- src/layout.rt:275:49
+part-end-add-expression-end : (t : ℕ) → part-end-lts.Need-add-expression-end (
+  cut-reads.Asked,
+  cut-reads.Learnt,
+  expression-end-below t,
+  expression-end.Post,
+  measured-end-reads.Asked,
+  measured-end-reads.Learnt,
+  stopped-reads.Asked,
+  stopped-reads.Learnt,
+) (part-end-at t) part-end.Post
+part-end-add-expression-end t c = search needs
+
+-- src/layout.rt:275:13
+part-end-expression-end-requires : (t : ℕ) → part-end-lts.Need-expression-end-requires (
+  cut-reads.Asked,
+  cut-reads.Learnt,
+  expression-end-below t,
+  expression-end.Post,
+  measured-end-reads.Asked,
+  measured-end-reads.Learnt,
+  stopped-reads.Asked,
+  stopped-reads.Learnt,
+) (part-end-at t) part-end.Post
+part-end-expression-end-requires t c κs = let q = c .before .before .before .before .pre .0 in let h = c .before .if1 .left in (omega (arith, q), (c .before .before .before .before .pre .1, omega (arith, h)))
+
+-- src/layout.rt:274:9
+part-end-measured-end-requires : (t : ℕ) → part-end-lts.Need-measured-end-requires (
+  cut-reads.Asked,
+  cut-reads.Learnt,
+  expression-end-below t,
+  expression-end.Post,
+  measured-end-reads.Asked,
+  measured-end-reads.Learnt,
+  stopped-reads.Asked,
+  stopped-reads.Learnt,
+) (part-end-at t) part-end.Post
+part-end-measured-end-requires t c κs = tt
+
+-- src/layout.rt:274:9
+part-end-returns-2 : (t : ℕ) → part-end-lts.Need-returns-2 (
+  cut-reads.Asked,
+  cut-reads.Learnt,
+  expression-end-below t,
+  expression-end.Post,
+  measured-end-reads.Asked,
+  measured-end-reads.Learnt,
+  stopped-reads.Asked,
+  stopped-reads.Learnt,
+) (part-end-at t) part-end.Post
+part-end-returns-2 t c = c .measured-end .ensures ∙ part-in _ _ _ _ _ _ _ _ (c .before .before .before .if1 .left) (c .before .before .if2 .taken) (c .before .expression-end .ensures)
+
+-- src/layout.rt:281:5
+part-end-stopped-requires : (t : ℕ) → part-end-lts.Need-stopped-requires (
+  cut-reads.Asked,
+  cut-reads.Learnt,
+  expression-end-below t,
+  expression-end.Post,
+  measured-end-reads.Asked,
+  measured-end-reads.Learnt,
+  stopped-reads.Asked,
+  stopped-reads.Learnt,
+) (part-end-at t) part-end.Post
+part-end-stopped-requires t c κs = tt
+
+-- src/layout.rt:257:1
+part-end-returns-3 : (t : ℕ) → part-end-lts.Need-returns-3 (
+  cut-reads.Asked,
+  cut-reads.Learnt,
+  expression-end-below t,
+  expression-end.Post,
+  measured-end-reads.Asked,
+  measured-end-reads.Learnt,
+  stopped-reads.Asked,
+  stopped-reads.Learnt,
+) (part-end-at t) part-end.Post
+part-end-returns-3 t c = c .stopped .ensures ∙ part-deep _ _ _ _ _ _ _ _ (c .before .before .if1 .left) (c .before .if2 .left)
+
+-- src/layout.rt:139:13
+parts-end-enum-known-node : (t : ℕ) → parts-end-lts.Need-enum-known-node (
+  part-end-below t,
+  part-end.Post,
+  onward-reads.Asked,
+  onward-reads.Learnt,
+  bind-reads.Asked,
+  bind-reads.Learnt,
+  both-end-below t,
+  both-end.Post,
+) (parts-end-at t) parts-end.Post
+parts-end-enum-known-node t c = search needs
+
+-- src/layout.rt:144:13
+parts-end-enum-known-node-2 : (t : ℕ) → parts-end-lts.Need-enum-known-node-2 (
+  part-end-below t,
+  part-end.Post,
+  onward-reads.Asked,
+  onward-reads.Learnt,
+  bind-reads.Asked,
+  bind-reads.Learnt,
+  both-end-below t,
+  both-end.Post,
+) (parts-end-at t) parts-end.Post
+parts-end-enum-known-node-2 t c = search needs
+
+-- src/layout.rt:150:13
+parts-end-enum-known-node-3 : (t : ℕ) → parts-end-lts.Need-enum-known-node-3 (
+  part-end-below t,
+  part-end.Post,
+  onward-reads.Asked,
+  onward-reads.Learnt,
+  bind-reads.Asked,
+  bind-reads.Learnt,
+  both-end-below t,
+  both-end.Post,
+) (parts-end-at t) parts-end.Post
+parts-end-enum-known-node-3 t c = search needs
+
+-- src/layout.rt:157:13
+parts-end-enum-known-node-4 : (t : ℕ) → parts-end-lts.Need-enum-known-node-4 (
+  part-end-below t,
+  part-end.Post,
+  onward-reads.Asked,
+  onward-reads.Learnt,
+  bind-reads.Asked,
+  bind-reads.Learnt,
+  both-end-below t,
+  both-end.Post,
+) (parts-end-at t) parts-end.Post
+parts-end-enum-known-node-4 t c = search needs
+
+-- src/layout.rt:162:13
+parts-end-enum-known-node-5 : (t : ℕ) → parts-end-lts.Need-enum-known-node-5 (
+  part-end-below t,
+  part-end.Post,
+  onward-reads.Asked,
+  onward-reads.Learnt,
+  bind-reads.Asked,
+  bind-reads.Learnt,
+  both-end-below t,
+  both-end.Post,
+) (parts-end-at t) parts-end.Post
+parts-end-enum-known-node-5 t c = search needs
+
+-- src/layout.rt:164:35
+parts-end-enum-known-node-6 : (t : ℕ) → parts-end-lts.Need-enum-known-node-6 (
+  part-end-below t,
+  part-end.Post,
+  onward-reads.Asked,
+  onward-reads.Learnt,
+  bind-reads.Asked,
+  bind-reads.Learnt,
+  both-end-below t,
+  both-end.Post,
+) (parts-end-at t) parts-end.Post
+parts-end-enum-known-node-6 t c = search needs
+
+-- src/layout.rt:168:13
+parts-end-enum-known-node-7 : (t : ℕ) → parts-end-lts.Need-enum-known-node-7 (
+  part-end-below t,
+  part-end.Post,
+  onward-reads.Asked,
+  onward-reads.Learnt,
+  bind-reads.Asked,
+  bind-reads.Learnt,
+  both-end-below t,
+  both-end.Post,
+) (parts-end-at t) parts-end.Post
+parts-end-enum-known-node-7 t c = search needs
+
+-- src/layout.rt:170:77
+parts-end-add-part-end : (t : ℕ) → parts-end-lts.Need-add-part-end (
+  part-end-below t,
+  part-end.Post,
+  onward-reads.Asked,
+  onward-reads.Learnt,
+  bind-reads.Asked,
+  bind-reads.Learnt,
+  both-end-below t,
+  both-end.Post,
+) (parts-end-at t) parts-end.Post
+parts-end-add-part-end t c = let p = c .before .before .before .before .before .pre .1 .1 .small in omega arith
+
+-- src/layout.rt:170:21
+parts-end-part-end-requires : (t : ℕ) → parts-end-lts.Need-part-end-requires (
+  part-end-below t,
+  part-end.Post,
+  onward-reads.Asked,
+  onward-reads.Learnt,
+  bind-reads.Asked,
+  bind-reads.Learnt,
+  both-end-below t,
+  both-end.Post,
+) (parts-end-at t) parts-end.Post
+parts-end-part-end-requires t c κs = let q = c .before .before .before .before .before .pre .0 in let f = branch-fields _ _ (c .before .before .before .before .before .pre .1 .1 .is) (c .before .node7 .given .1) in (omega (arith, q, f .here, f .forward, f .inside), c .before .before .before .before .before .pre .1 .0)
+
+-- src/layout.rt:170:14
+parts-end-onward-requires : (t : ℕ) → parts-end-lts.Need-onward-requires (
+  part-end-below t,
+  part-end.Post,
+  onward-reads.Asked,
+  onward-reads.Learnt,
+  bind-reads.Asked,
+  bind-reads.Learnt,
+  both-end-below t,
+  both-end.Post,
+) (parts-end-at t) parts-end.Post
+parts-end-onward-requires t c κs = tt
+
+-- src/layout.rt:172:13
+parts-end-enum-known-node-8 : (t : ℕ) → parts-end-lts.Need-enum-known-node-8 (
+  part-end-below t,
+  part-end.Post,
+  onward-reads.Asked,
+  onward-reads.Learnt,
+  bind-reads.Asked,
+  bind-reads.Learnt,
+  both-end-below t,
+  both-end.Post,
+) (parts-end-at t) parts-end.Post
+parts-end-enum-known-node-8 t c = search needs
+
+-- src/layout.rt:181:13
+parts-end-bind-requires : (t : ℕ) → parts-end-lts.Need-bind-requires (
+  part-end-below t,
+  part-end.Post,
+  onward-reads.Asked,
+  onward-reads.Learnt,
+  bind-reads.Asked,
+  bind-reads.Learnt,
+  both-end-below t,
+  both-end.Post,
+) (parts-end-at t) parts-end.Post
+parts-end-bind-requires t c κs = tt
+
+-- src/layout.rt:184:13
+parts-end-add-part-end-2 : (t : ℕ) → parts-end-lts.Need-add-part-end-2 (
+  part-end-below t,
+  part-end.Post,
+  onward-reads.Asked,
+  onward-reads.Learnt,
+  bind-reads.Asked,
+  bind-reads.Learnt,
+  both-end-below t,
+  both-end.Post,
+) (parts-end-at t) parts-end.Post
+parts-end-add-part-end-2 t c = let p = c .before .before .before .before .before .before .pre .1 .1 .small in omega arith
+
+-- src/layout.rt:176:21
+parts-end-part-end-requires-2 : (t : ℕ) → parts-end-lts.Need-part-end-requires-2 (
+  part-end-below t,
+  part-end.Post,
+  onward-reads.Asked,
+  onward-reads.Learnt,
+  bind-reads.Asked,
+  bind-reads.Learnt,
+  both-end-below t,
+  both-end.Post,
+) (parts-end-at t) parts-end.Post
+parts-end-part-end-requires-2 t c κs = let q = c .before .before .before .before .before .before .pre .0 in let f = continuation-fields _ _ (c .before .before .before .before .before .before .pre .1 .1 .is) (c .before .before .node8 .given .1) in (omega (arith, q, f .here, f .forward, f .inside), c .before .before .before .before .before .before .pre .1 .0)
+
+-- src/layout.rt:176:14
+parts-end-onward-requires-2 : (t : ℕ) → parts-end-lts.Need-onward-requires-2 (
+  part-end-below t,
+  part-end.Post,
+  onward-reads.Asked,
+  onward-reads.Learnt,
+  bind-reads.Asked,
+  bind-reads.Learnt,
+  both-end-below t,
+  both-end.Post,
+) (parts-end-at t) parts-end.Post
+parts-end-onward-requires-2 t c κs = tt
+
+-- src/layout.rt:187:13
+parts-end-enum-known-node-9 : (t : ℕ) → parts-end-lts.Need-enum-known-node-9 (
+  part-end-below t,
+  part-end.Post,
+  onward-reads.Asked,
+  onward-reads.Learnt,
+  bind-reads.Asked,
+  bind-reads.Learnt,
+  both-end-below t,
+  both-end.Post,
+) (parts-end-at t) parts-end.Post
+parts-end-enum-known-node-9 t c = search needs
+
+-- src/layout.rt:192:14
+parts-end-both-end-requires : (t : ℕ) → parts-end-lts.Need-both-end-requires (
+  part-end-below t,
+  part-end.Post,
+  onward-reads.Asked,
+  onward-reads.Learnt,
+  bind-reads.Asked,
+  bind-reads.Learnt,
+  both-end-below t,
+  both-end.Post,
+) (parts-end-at t) parts-end.Post
+parts-end-both-end-requires t c κs = let q = c .before .before .before .before .before .pre .0 in let f = both-fields _ _ (c .before .before .before .before .before .pre .1 .1 .is) (c .before .node9 .given .1) in (omega (arith, q), (c .before .before .before .before .before .pre .1 .0, (f .forward, f .inside)))
+
+-- src/layout.rt:204:22
+parts-end-enum-known-node-10 : (t : ℕ) → parts-end-lts.Need-enum-known-node-10 (
+  part-end-below t,
+  part-end.Post,
+  onward-reads.Asked,
+  onward-reads.Learnt,
+  bind-reads.Asked,
+  bind-reads.Learnt,
+  both-end-below t,
+  both-end.Post,
+) (parts-end-at t) parts-end.Post
+parts-end-enum-known-node-10 t c = search needs
+
+-- src/layout.rt:122:1
+parts-end-returns : (t : ℕ) → parts-end-lts.Need-returns (
+  part-end-below t,
+  part-end.Post,
+  onward-reads.Asked,
+  onward-reads.Learnt,
+  bind-reads.Asked,
+  bind-reads.Learnt,
+  both-end-below t,
+  both-end.Post,
+) (parts-end-at t) parts-end.Post
+unfolding partsEnd
+parts-end-returns t c = sym (ap (partsEnd (c .before .before .before .before .before .args .names) (c .before .before .before .before .before .args .params .now) (c .before .before .before .before .before .args .file .now) (c .before .before .before .before .before .args .level) (c .before .before .before .before .before .args .kinds) (c .before .before .before .before .before .args .at)) (c .before .node .given .1))
+
+-- src/layout.rt:122:1
+parts-end-returns-2 : (t : ℕ) → parts-end-lts.Need-returns-2 (
+  part-end-below t,
+  part-end.Post,
+  onward-reads.Asked,
+  onward-reads.Learnt,
+  bind-reads.Asked,
+  bind-reads.Learnt,
+  both-end-below t,
+  both-end.Post,
+) (parts-end-at t) parts-end.Post
+unfolding partsEnd
+parts-end-returns-2 t c = sym (ap (partsEnd (c .before .before .before .before .before .args .names) (c .before .before .before .before .before .args .params .now) (c .before .before .before .before .before .args .file .now) (c .before .before .before .before .before .args .level) (c .before .before .before .before .before .args .kinds) (c .before .before .before .before .before .args .at)) (c .before .node2 .given .1))
+
+-- src/layout.rt:122:1
+parts-end-returns-3 : (t : ℕ) → parts-end-lts.Need-returns-3 (
+  part-end-below t,
+  part-end.Post,
+  onward-reads.Asked,
+  onward-reads.Learnt,
+  bind-reads.Asked,
+  bind-reads.Learnt,
+  both-end-below t,
+  both-end.Post,
+) (parts-end-at t) parts-end.Post
+unfolding partsEnd
+parts-end-returns-3 t c = sym (ap (partsEnd (c .before .before .before .before .before .args .names) (c .before .before .before .before .before .args .params .now) (c .before .before .before .before .before .args .file .now) (c .before .before .before .before .before .args .level) (c .before .before .before .before .before .args .kinds) (c .before .before .before .before .before .args .at)) (c .before .node3 .given .1))
+
+-- src/layout.rt:122:1
+parts-end-returns-4 : (t : ℕ) → parts-end-lts.Need-returns-4 (
+  part-end-below t,
+  part-end.Post,
+  onward-reads.Asked,
+  onward-reads.Learnt,
+  bind-reads.Asked,
+  bind-reads.Learnt,
+  both-end-below t,
+  both-end.Post,
+) (parts-end-at t) parts-end.Post
+unfolding partsEnd
+parts-end-returns-4 t c = sym (ap (partsEnd (c .before .before .before .before .before .args .names) (c .before .before .before .before .before .args .params .now) (c .before .before .before .before .before .args .file .now) (c .before .before .before .before .before .args .level) (c .before .before .before .before .before .args .kinds) (c .before .before .before .before .before .args .at)) (c .before .node4 .given .1))
+
+-- src/layout.rt:122:1
+parts-end-returns-5 : (t : ℕ) → parts-end-lts.Need-returns-5 (
+  part-end-below t,
+  part-end.Post,
+  onward-reads.Asked,
+  onward-reads.Learnt,
+  bind-reads.Asked,
+  bind-reads.Learnt,
+  both-end-below t,
+  both-end.Post,
+) (parts-end-at t) parts-end.Post
+unfolding partsEnd
+parts-end-returns-5 t c = sym (ap (partsEnd (c .before .before .before .before .before .args .names) (c .before .before .before .before .before .args .params .now) (c .before .before .before .before .before .args .file .now) (c .before .before .before .before .before .args .level) (c .before .before .before .before .before .args .kinds) (c .before .before .before .before .before .args .at)) (c .before .node5 .given .1))
+
+-- src/layout.rt:122:1
+parts-end-returns-6 : (t : ℕ) → parts-end-lts.Need-returns-6 (
+  part-end-below t,
+  part-end.Post,
+  onward-reads.Asked,
+  onward-reads.Learnt,
+  bind-reads.Asked,
+  bind-reads.Learnt,
+  both-end-below t,
+  both-end.Post,
+) (parts-end-at t) parts-end.Post
+unfolding partsEnd
+parts-end-returns-6 t c = sym (ap (partsEnd (c .before .before .before .before .before .args .names) (c .before .before .before .before .before .args .params .now) (c .before .before .before .before .before .args .file .now) (c .before .before .before .before .before .args .level) (c .before .before .before .before .before .args .kinds) (c .before .before .before .before .before .args .at)) (c .before .node6 .given .1))
+
+-- src/layout.rt:122:1
+parts-end-returns-7 : (t : ℕ) → parts-end-lts.Need-returns-7 (
+  part-end-below t,
+  part-end.Post,
+  onward-reads.Asked,
+  onward-reads.Learnt,
+  bind-reads.Asked,
+  bind-reads.Learnt,
+  both-end-below t,
+  both-end.Post,
+) (parts-end-at t) parts-end.Post
+parts-end-returns-7 t c = branch-on _ _ _ _ _ _ (c .before .before .before .node7 .given .1) (c .onward .ensures) (c .before .part-end .ensures)
+
+-- src/layout.rt:122:1
+parts-end-returns-8 : (t : ℕ) → parts-end-lts.Need-returns-8 (
+  part-end-below t,
+  part-end.Post,
+  onward-reads.Asked,
+  onward-reads.Learnt,
+  bind-reads.Asked,
+  bind-reads.Learnt,
+  both-end-below t,
+  both-end.Post,
+) (parts-end-at t) parts-end.Post
+parts-end-returns-8 t c = continuation-on _ _ _ _ _ _ _ (c .before .before .before .before .node8 .given .1) (c .onward2 .ensures) (c .before .part-end2 .ensures) (c .before .before .bind .ensures)
+
+-- src/layout.rt:122:1
+parts-end-returns-9 : (t : ℕ) → parts-end-lts.Need-returns-9 (
+  part-end-below t,
+  part-end.Post,
+  onward-reads.Asked,
+  onward-reads.Learnt,
+  bind-reads.Asked,
+  bind-reads.Learnt,
+  both-end-below t,
+  both-end.Post,
+) (parts-end-at t) parts-end.Post
+parts-end-returns-9 t c = tag-9-on _ _ _ _ _ _ (c .before .before .node9 .given .1) (c .both-end .ensures)
+
+-- src/layout.rt:122:1
+parts-end-returns-10 : (t : ℕ) → parts-end-lts.Need-returns-10 (
+  part-end-below t,
+  part-end.Post,
+  onward-reads.Asked,
+  onward-reads.Learnt,
+  bind-reads.Asked,
+  bind-reads.Learnt,
+  both-end-below t,
+  both-end.Post,
+) (parts-end-at t) parts-end.Post
+unfolding partsEnd
+parts-end-returns-10 t c = sym (ap (partsEnd (c .before .before .before .before .before .args .names) (c .before .before .before .before .before .args .params .now) (c .before .before .before .before .before .args .file .now) (c .before .before .before .before .before .args .level) (c .before .before .before .before .before .args .kinds) (c .before .before .before .before .before .args .at)) (c .before .node10 .given .1))
+
+pub +both-end+expression-end+handler-end+node-end+part-end+parts-end-spec :
+    {M : Type 1} → statement M
++both-end+expression-end+handler-end+node-end+part-end+parts-end-spec =
+    close
+    μ-both-end
+    μ-expression-end
+    μ-handler-end
+    μ-node-end
+    μ-part-end
+    μ-parts-end
+    (λ t. both-end-lts.spec (
+      bind-reads.Asked,
+      bind-reads.Learnt,
+      part-end-below t,
+      part-end.Post,
+      handler-end-below t,
+      handler-end.Post,
+      onward-reads.Asked,
+      onward-reads.Learnt,
+    )
+    (both-end-at t)
+    both-end.Post
+    (both-end-bind-requires t)
+    (both-end-bind-requires-2 t)
+    (both-end-add-part-end t)
+    (both-end-part-end-requires t)
+    (both-end-enum-known-middle t)
+    (both-end-handler-end-requires t)
+    (both-end-onward-requires t)
+    (both-end-enum-known-r t)
+    (both-end-returns t)
+    (both-end-returns-2 t))
+    (λ t. expression-end-lts.spec (
+      tag-at-reads.Asked,
+      tag-at-reads.Learnt,
+      node-end-below t,
+      node-end.Post,
+      tail-kinds-reads.Asked,
+      tail-kinds-reads.Learnt,
+    )
+    (expression-end-at t)
+    expression-end.Post
+    expression-end-Inv-loop
+    expression-end-μ-loop
+    (expression-end-loop-holds t)
+    (expression-end-tag-at-requires t)
+    (expression-end-node-end-requires t)
+    (expression-end-enum-known-next t)
+    (expression-end-tail-kinds-requires t)
+    (expression-end-loop-less t)
+    (expression-end-loop-again t)
+    (expression-end-enum-known-next-2 t)
+    (expression-end-returns t)
+    (expression-end-enum-known-r t)
+    (expression-end-returns-2 t))
+    (λ t. handler-end-lts.spec (
+      cut-reads.Asked,
+      cut-reads.Learnt,
+      pair-reads.Asked,
+      pair-reads.Learnt,
+      part-end-below t,
+      part-end.Post,
+    )
+    (handler-end-at t)
+    handler-end.Post
+    (handler-end-cut-requires t)
+    (handler-end-returns t)
+    (handler-end-add-start t)
+    (handler-end-cut-requires-2 t)
+    (handler-end-returns-2 t)
+    (handler-end-shared-slice-read-pair t)
+    (handler-end-add-pair t)
+    (handler-end-shared-slice-read-pair-2 t)
+    (handler-end-pair-requires t)
+    (handler-end-part-end-requires t)
+    (handler-end-returns-3 t))
+    (λ t. node-end-lts.spec (
+      judge-reads.Asked,
+      judge-reads.Learnt,
+      parts-end-below t,
+      parts-end.Post,
+    )
+    (node-end-at t)
+    node-end.Post
+    (node-end-judge-requires t)
+    (node-end-enum-told t)
+    (node-end-parts-end-requires t)
+    (node-end-enum-known-r t)
+    (node-end-returns t)
+    (node-end-returns-2 t))
+    (λ t. part-end-lts.spec (
+      cut-reads.Asked,
+      cut-reads.Learnt,
+      expression-end-below t,
+      expression-end.Post,
+      measured-end-reads.Asked,
+      measured-end-reads.Learnt,
+      stopped-reads.Asked,
+      stopped-reads.Learnt,
+    )
+    (part-end-at t)
+    part-end.Post
+    (part-end-cut-requires t)
+    (part-end-returns t)
+    (part-end-add-expression-end t)
+    (part-end-expression-end-requires t)
+    (part-end-measured-end-requires t)
+    (part-end-returns-2 t)
+    (part-end-stopped-requires t)
+    (part-end-returns-3 t))
+    λ t. parts-end-lts.spec (
+      part-end-below t,
+      part-end.Post,
+      onward-reads.Asked,
+      onward-reads.Learnt,
+      bind-reads.Asked,
+      bind-reads.Learnt,
+      both-end-below t,
+      both-end.Post,
+    )
+    (parts-end-at t)
+    parts-end.Post
+    (parts-end-enum-known-node t)
+    (parts-end-enum-known-node-2 t)
+    (parts-end-enum-known-node-3 t)
+    (parts-end-enum-known-node-4 t)
+    (parts-end-enum-known-node-5 t)
+    (parts-end-enum-known-node-6 t)
+    (parts-end-enum-known-node-7 t)
+    (parts-end-add-part-end t)
+    (parts-end-part-end-requires t)
+    (parts-end-onward-requires t)
+    (parts-end-enum-known-node-8 t)
+    (parts-end-bind-requires t)
+    (parts-end-add-part-end-2 t)
+    (parts-end-part-end-requires-2 t)
+    (parts-end-onward-requires-2 t)
+    (parts-end-enum-known-node-9 t)
+    (parts-end-both-end-requires t)
+    (parts-end-enum-known-node-10 t)
+    (parts-end-returns t)
+    (parts-end-returns-2 t)
+    (parts-end-returns-3 t)
+    (parts-end-returns-4 t)
+    (parts-end-returns-5 t)
+    (parts-end-returns-6 t)
+    (parts-end-returns-7 t)
+    (parts-end-returns-8 t)
+    (parts-end-returns-9 t)
+    (parts-end-returns-10 t)

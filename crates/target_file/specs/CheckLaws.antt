@@ -1,0 +1,47 @@
+-- Laws of the checker's answer, as the functions that give it meet them.
+use Prim.Native.Nat.{ℕ, _≤_, _<_}
+use mathlib.Core.Path.{_≡_, refl, sym, ap, _∙_}
+use mathlib.Core.Bool.{true, false, cond}
+use mathlib.Core.List.{List, []}
+use native.Mathlib.Omega.{arith}
+use borrow.Author.Tests.{le-leb, lt-leb}
+use lib.Dec.{leb}
+use lib.ListN.{length, take}
+use Rattle.semantics.specs.Code.{Code}
+use Rattle.parsing.specs.declared.Refusal.{Refusal}
+use Rattle.parsing.specs.declared.Scan.the-variants.{Past, Stopped}
+use Rattle.parsing.specs.Parser.{Parsed, read, refuse, pastOf, Verdict, accepted, refused}
+use Rattle.parsing.specs.ParserLaws.{past-read, past-refuse}
+use Rattle.target_file.specs.Layout.{code}
+use Rattle.target_file.specs.Check.{verdict, arities, named, checkOf, codeRead, codeOf}
+
+module _ {A : Type 0} (x : Parsed A) where
+  pub verdict-past : (n : ℕ) → pastOf x ≡ Past n → accepted ≡ verdict x
+  verdict-past n e = rw (past-read x e .is)
+
+  pub verdict-stop : (r : Refusal) → pastOf x ≡ Stopped r → refused (r .number) (r .place) ≡ verdict x
+  verdict-stop r e = rw (past-refuse x e)
+
+module _ (s : List ℕ) where
+  -- Names are judged among the functions of the table.
+  module _ (ps params : List ℕ) (n : ℕ) (is : n ≡ length (codeOf s)) (part : ps ≡ take n params) (counts : take (length (codeOf s)) params ≡ arities (codeOf s)) where
+    table : ps ≡ arities (codeOf s)
+    table = part ∙ ap (λ (i : ℕ). take i params) is ∙ counts
+
+    pub names-past : (m : ℕ) → pastOf (code true ps s 0) ≡ Past m → accepted ≡ verdict (code true (arities (codeOf s)) s 0)
+    names-past m e = verdict-past (code true ps s 0) m e ∙ ap (λ l. verdict (code true l s 0)) table
+
+    pub names-stop : (r : Refusal) → pastOf (code true ps s 0) ≡ Stopped r → refused (r .number) (r .place) ≡ verdict (code true (arities (codeOf s)) s 0)
+    names-stop r e = verdict-stop (code true ps s 0) r e ∙ ap (λ l. verdict (code true l s 0)) table
+
+  pub check-long : 65535 < length s → refused 15 65535 ≡ checkOf s
+  unfolding checkOf
+  check-long h = rw (lt-leb (length s) 65535 h)
+
+  pub check-stop : (r : Refusal) → length s ≤ 65535 → pastOf (code false [] s 0) ≡ Stopped r → refused (r .number) (r .place) ≡ checkOf s
+  unfolding checkOf
+  check-stop r h e = rw (le-leb (length s) 65535 h, past-refuse (code false [] s 0) e)
+
+  pub check-names : (n : ℕ) → length s ≤ 65535 → pastOf (code false [] s 0) ≡ Past n → verdict (code true (arities (codeOf s)) s 0) ≡ checkOf s
+  unfolding checkOf codeOf
+  check-names n h e = rw (le-leb (length s) 65535 h, past-read (code false [] s 0) e .is)

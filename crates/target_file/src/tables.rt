@@ -1,0 +1,38 @@
+// The tables of an accepted layout, filled once: where the functions' bodies stand, and their numbers of parameters.
+use target_tags::tag;
+ghost use mathlib.Core.Path.{_≡_};
+ghost use Rattle.target_file.specs.Tables.{LaidOut, Tabled, StartsOf};
+
+pub struct Tables {
+    pub starts: [u16; 2048],
+    pub params: [u8; 2048],
+}
+
+pub fn tables_of(file: &[u8]) -> Tables
+    requires { ⌜ LaidOut (now file) ⌝ }
+    ensures { λ r. ⌜ Tabled (now (file .entry)) (r .starts) (r .params) ⌝ }
+{
+    let n = tag::pair(file[5], file[6]);
+    let mut starts = [0u16; 2048];
+    let mut params = [0u8; 2048];
+    let mut at = 7;
+    let mut i = 0;
+    while i < n {
+        let body = at + 3;
+        params[i] = file[at];
+        starts[i] = body as u16;
+        let field = at + 1;
+        at = body + tag::pair(file[field], file[field + 1]);
+        i += 1;
+    }
+    Tables { starts, params }
+}
+
+// Where the functions' bodies stand.
+pub fn starts_of(file: &[u8]) -> [u16; 2048]
+    requires { ⌜ LaidOut (now file) ⌝ }
+    ensures { λ r. ⌜ StartsOf (now (file .entry)) r ⌝ }
+{
+    let tables = tables_of(file);
+    tables.starts
+}

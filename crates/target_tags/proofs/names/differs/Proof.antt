@@ -1,0 +1,25 @@
+use Rattle.parsing.proofs.Cases.{cases}
+use Rattle.target_tags.specs.Names.{differ}
+use borrow.Author.Needs.{needs}
+use Rattle.target_tags.proofs.names.differs.Statement.{statement}
+use Rattle.target_tags.proofs.names.differs.Tie as tie
+use Rattle.target_tags.proofs.names.differs.Reads as reads
+use Rattle.target_tags.proofs.names.differs.Lts as lts
+use Rattle.target_tags.proofs.names.refused.Reads as refused-reads
+
+-- src/names.rt:54:9
+refused-requires : tie.Need-refused-requires
+refused-requires c κs = search needs
+
+-- src/names.rt:54:9
+returns : tie.Need-returns
+unfolding differ
+returns c = search cases
+
+-- src/names.rt:50:1
+returns-2 : tie.Need-returns-2
+unfolding differ
+returns-2 c = search cases
+
+pub differs-spec : {M : Type 1} → statement M
+differs-spec = tie.close (tie.spec refused-requires returns returns-2)

@@ -1,0 +1,87 @@
+use Rattle.target_tags.specs.NamesLaws.{values-stop, values-on, values-none}
+use native.Mathlib.Omega.{arith}
+use mathlib.Core.Path.{_≡_, refl, _∙_, sym, ap}
+use Prim.Native.Nat.{_+_, _≤_}
+use lib.ListN.{length}
+use borrow.Author.Needs.{needs}
+use Rattle.target_tags.specs.Names.{values}
+use Rattle.target_tags.proofs.names.reads_values.Statement.{statement}
+use Rattle.target_tags.proofs.names.reads_values.Tie as tie
+use Rattle.target_tags.proofs.names.reads_values.Reads as reads
+use Rattle.target_tags.proofs.names.reads_values.Lts as lts
+use Rattle.target_tags.proofs.names.reads_slot.Reads as reads-slot-reads
+use Rattle.target_tags.proofs.names.wide.Reads as wide-reads
+
+abbrev Inv-loop : tie.InvT-loop
+Inv-loop file kinds start count at₀ left₀ at left =
+    (at + left ≤ length file) × (values kinds file at left ≡ values kinds file start count)
+
+abbrev μ-loop : tie.MeasureT-loop
+μ-loop file kinds start count at₀ left₀ at left = left
+
+-- src/names.rt:101:5
+loop-holds : tie.Need-loop-holds Inv-loop μ-loop
+loop-holds c = (c .before .pre, refl)
+
+-- src/names.rt:102:9
+sub-left : tie.Need-sub-left Inv-loop μ-loop
+sub-left c = search needs
+
+-- src/names.rt:103:41
+shared-slice-read-wide : tie.Need-shared-slice-read-wide Inv-loop μ-loop
+shared-slice-read-wide c = search needs
+
+-- src/names.rt:103:36
+wide-requires : tie.Need-wide-requires Inv-loop μ-loop
+wide-requires c κs = search needs
+
+-- src/names.rt:103:15
+reads-slot-requires : tie.Need-reads-slot-requires Inv-loop μ-loop
+reads-slot-requires c κs = search needs
+
+-- src/names.rt:104:30
+enum-known-r : tie.Need-enum-known-r Inv-loop μ-loop
+enum-known-r c = search needs
+
+-- src/names.rt:105:17
+returns : tie.Need-returns Inv-loop μ-loop
+returns c = values-stop _ _ _ _ (c .before .before .before .before .wide .ensures) _ _ (c .before .before .before .before .before .before .loop-test .taken) (sym (c .before .before .before .reads-slot .ensures) ∙ c .before .r .given .1) ∙ c .before .before .before .before .before .before .before .loop .inv .1
+
+-- src/names.rt:108:17
+enum-told : tie.Need-enum-told Inv-loop μ-loop
+enum-told c = search needs
+
+-- src/names.rt:108:17
+add-at : tie.Need-add-at Inv-loop μ-loop
+add-at c = search needs
+
+-- src/names.rt:101:5
+loop-less : tie.Need-loop-less Inv-loop μ-loop
+loop-less c = search needs
+
+-- src/names.rt:101:5
+loop-again : tie.Need-loop-again Inv-loop μ-loop
+loop-again c = (omega arith, values-on _ _ _ _ (c .before .before .before .wide .ensures) _ (c .before .before .before .before .before .loop-test .taken) (sym (c .before .before .reads-slot .ensures) ∙ c .enum-told .given .1) ∙ c .before .before .before .before .before .before .loop .inv .1)
+
+-- src/names.rt:95:1
+returns-2 : tie.Need-returns-2 Inv-loop μ-loop
+returns-2 c = values-none _ _ _ _ (c .loop-test .left) ∙ c .before .loop .inv .1
+
+pub reads-values-spec : {M : Type 1} → statement M
+reads-values-spec =
+    tie.close
+    (tie.spec
+    Inv-loop
+    μ-loop
+    loop-holds
+    sub-left
+    shared-slice-read-wide
+    wide-requires
+    reads-slot-requires
+    enum-known-r
+    returns
+    enum-told
+    add-at
+    loop-less
+    loop-again
+    returns-2)

@@ -1,0 +1,3 @@
+// The tags of translated files (`SPC`): the node at an offset, and the names in it.
+pub mod names;
+pub mod tag;

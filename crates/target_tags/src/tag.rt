@@ -1,0 +1,271 @@
+// The node at an offset, by its tag.
+use parsing::Refusal;
+ghost use mathlib.Core.Path.{_≡_};
+ghost use lib.ListN.{length};
+ghost use Prim.Native.Nat.{_+_, _*_, _<_};
+ghost use Rattle.target_tags.specs.Tag.{tagAt, constantAt, copyAt, differenceAt, jumpAt, resumeAt, handleAt, branchAt, continuationAt, bothAt};
+
+// A node as it stands in the file: its fields, and the offset past them. Its names are not judged here.
+pub enum Tag {
+    Constant {
+        slot: usize,
+        value: i32,
+        next: usize,
+    },
+    Copy {
+        slot: usize,
+        from: usize,
+        next: usize,
+    },
+    Difference {
+        slot: usize,
+        left: usize,
+        right: usize,
+        next: usize,
+    },
+    Jump {
+        function: usize,
+        continuation: usize,
+        handler: usize,
+        count: usize,
+        next: usize,
+    },
+    Resume {
+        continuation: usize,
+        value: usize,
+        next: usize,
+    },
+    Handle {
+        handler: usize,
+        next: usize,
+    },
+    Branch {
+        left: usize,
+        right: usize,
+        size: usize,
+        next: usize,
+    },
+    Continuation {
+        slot: usize,
+        parameter: usize,
+        size: usize,
+        next: usize,
+    },
+    Both {
+        slot: usize,
+        parameter: usize,
+        handler: usize,
+        size: usize,
+        next: usize,
+    },
+    Refused(Refusal),
+}
+
+fn cut(file: &[u8]) -> Tag
+    ensures { λ r. ⌜ r ≡ Tag.Refused (record { number = 3; place = length (now (file .entry)) }) ⌝ }
+{
+    Tag::Refused(Refusal {
+        number: 3,
+        place: file.len(),
+    })
+}
+
+fn wide(b: u8) -> usize
+    ensures { λ r. ⌜ r ≡ b ⌝ }
+{
+    b as usize
+}
+
+// The number of a field of two bytes, the low byte first.
+pub fn pair(low: u8, high: u8) -> usize
+    ensures { λ r. ⌜ r ≡ low + 256 * high ⌝ }
+{
+    (low as usize) + 256 * (high as usize)
+}
+
+fn constant_at(file: &[u8], at: usize) -> Tag
+    requires { ⌜ at < length (now file) ⌝ }
+    ensures { λ r. ⌜ r ≡ constantAt (now (file .entry)) at ⌝ }
+{
+    let next = at + 6;
+    if file.len() < next {
+        return cut(file);
+    }
+    let slot = wide(file[at + 1]);
+    let i = at + 2;
+    let value = parsing::value(file[i], file[i + 1], file[i + 2], file[i + 3]);
+    Tag::Constant { slot, value, next }
+}
+
+fn copy_at(file: &[u8], at: usize) -> Tag
+    requires { ⌜ at < length (now file) ⌝ }
+    ensures { λ r. ⌜ r ≡ copyAt (now (file .entry)) at ⌝ }
+{
+    let next = at + 3;
+    if file.len() < next {
+        return cut(file);
+    }
+    let slot = wide(file[at + 1]);
+    let from = wide(file[at + 2]);
+    Tag::Copy { slot, from, next }
+}
+
+fn difference_at(file: &[u8], at: usize) -> Tag
+    requires { ⌜ at < length (now file) ⌝ }
+    ensures { λ r. ⌜ r ≡ differenceAt (now (file .entry)) at ⌝ }
+{
+    let next = at + 4;
+    if file.len() < next {
+        return cut(file);
+    }
+    let slot = wide(file[at + 1]);
+    let left = wide(file[at + 2]);
+    let right = wide(file[at + 3]);
+    Tag::Difference {
+        slot,
+        left,
+        right,
+        next,
+    }
+}
+
+fn jump_at(file: &[u8], at: usize) -> Tag
+    requires { ⌜ at < length (now file) ⌝ }
+    ensures { λ r. ⌜ r ≡ jumpAt (now (file .entry)) at ⌝ }
+{
+    let values = at + 6;
+    if file.len() < values {
+        return cut(file);
+    }
+    let count = wide(file[at + 5]);
+    let next = values + count;
+    if file.len() < next {
+        return cut(file);
+    }
+    let field = at + 1;
+    let function = pair(file[field], file[field + 1]);
+    let continuation = wide(file[at + 3]);
+    let handler = wide(file[at + 4]);
+    Tag::Jump {
+        function,
+        continuation,
+        handler,
+        count,
+        next,
+    }
+}
+
+fn resume_at(file: &[u8], at: usize) -> Tag
+    requires { ⌜ at < length (now file) ⌝ }
+    ensures { λ r. ⌜ r ≡ resumeAt (now (file .entry)) at ⌝ }
+{
+    let next = at + 3;
+    if file.len() < next {
+        return cut(file);
+    }
+    let continuation = wide(file[at + 1]);
+    let value = wide(file[at + 2]);
+    Tag::Resume {
+        continuation,
+        value,
+        next,
+    }
+}
+
+fn handle_at(file: &[u8], at: usize) -> Tag
+    requires { ⌜ at < length (now file) ⌝ }
+    ensures { λ r. ⌜ r ≡ handleAt (now (file .entry)) at ⌝ }
+{
+    let next = at + 2;
+    if file.len() < next {
+        return cut(file);
+    }
+    let handler = wide(file[at + 1]);
+    Tag::Handle { handler, next }
+}
+
+fn branch_at(file: &[u8], at: usize) -> Tag
+    requires { ⌜ at < length (now file) ⌝ }
+    ensures { λ r. ⌜ r ≡ branchAt (now (file .entry)) at ⌝ }
+{
+    let next = at + 5;
+    if file.len() < next {
+        return cut(file);
+    }
+    let left = wide(file[at + 1]);
+    let right = wide(file[at + 2]);
+    let field = at + 3;
+    let size = pair(file[field], file[field + 1]);
+    Tag::Branch {
+        left,
+        right,
+        size,
+        next,
+    }
+}
+
+fn continuation_at(file: &[u8], at: usize) -> Tag
+    requires { ⌜ at < length (now file) ⌝ }
+    ensures { λ r. ⌜ r ≡ continuationAt (now (file .entry)) at ⌝ }
+{
+    let next = at + 5;
+    if file.len() < next {
+        return cut(file);
+    }
+    let slot = wide(file[at + 1]);
+    let parameter = wide(file[at + 2]);
+    let field = at + 3;
+    let size = pair(file[field], file[field + 1]);
+    Tag::Continuation {
+        slot,
+        parameter,
+        size,
+        next,
+    }
+}
+
+fn both_at(file: &[u8], at: usize) -> Tag
+    requires { ⌜ at < length (now file) ⌝ }
+    ensures { λ r. ⌜ r ≡ bothAt (now (file .entry)) at ⌝ }
+{
+    let next = at + 6;
+    if file.len() < next {
+        return cut(file);
+    }
+    let slot = wide(file[at + 1]);
+    let parameter = wide(file[at + 2]);
+    let handler = wide(file[at + 3]);
+    let field = at + 4;
+    let size = pair(file[field], file[field + 1]);
+    Tag::Both {
+        slot,
+        parameter,
+        handler,
+        size,
+        next,
+    }
+}
+
+// The node at an offset, by its tag.
+pub fn tag_at(file: &[u8], at: usize) -> Tag
+    ensures { λ r. ⌜ r ≡ tagAt (now (file .entry)) at ⌝ }
+{
+    if file.len() <= at {
+        return cut(file);
+    }
+    match file[at] {
+        1 => constant_at(file, at),
+        2 => copy_at(file, at),
+        3 => difference_at(file, at),
+        4 => jump_at(file, at),
+        5 => resume_at(file, at),
+        6 => handle_at(file, at),
+        7 => branch_at(file, at),
+        8 => continuation_at(file, at),
+        9 => both_at(file, at),
+        _ => Tag::Refused(Refusal {
+            number: 6,
+            place: at,
+        }),
+    }
+}
