@@ -11,3 +11,6 @@ pub mod GuardLaws
 pub mod ArgumentLaws
 pub mod Finished
 pub mod TurnLaws
+pub mod Published
+pub mod StartLaws
+pub mod AnswerLaws

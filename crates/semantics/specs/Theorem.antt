@@ -73,6 +73,22 @@ module _ (P : Program) (W : WellFormed P) (d : ℕ) where
       sums : (a k b t : ℕ) → t ≡ a + b → suc a + (k + b) ≡ suc k + t
       sums a k b t e = omega arith
 
+-- The state in which a function starts is well-formed.
+pub start-wellFormed : (P : Program) → WellFormed P → (f : FunctionNumber) → f < length P → (args : List ℤ)
+    → length args ≡ functionOf P f .params → WellFormedState P (begun f (functionOf P f) args [])
+start-wellFormed P W f lf args la = (
+  record {
+    function = lf;
+    handler = omega arith;
+    block = function-wellFormed P W f lf .entry;
+    variables = length-append args (replicate (functionOf P f .locals) (pos 0)) ∙ sizes;
+  },
+  tt,
+)
+  where
+    sizes : length args + length (replicate (functionOf P f .locals) (pos 0)) ≡ variables (functionOf P f)
+    sizes = rw (length-replicate (functionOf P f .locals) (pos 0), la)
+
 -- ── Whole runs, from a start function ───────────────────────────────────────────────────────────
 
 module _ (P : Program) (W : WellFormed P) (f : FunctionNumber) (lf : f < length P) (args : List ℤ) (la : length args ≡ functionOf P f .params) (d : ℕ) where
@@ -93,18 +109,7 @@ module _ (P : Program) (W : WellFormed P) (f : FunctionNumber) (lf : f < length 
 
   first-wellFormed : WellFormedState P first
   unfolding first
-  first-wellFormed = (
-    record {
-      function = lf;
-      handler = omega arith;
-      block = function-wellFormed P W f lf .entry;
-      variables = length-append args (replicate (functionOf P f .locals) (pos 0)) ∙ sizes;
-    },
-    tt,
-  )
-    where
-      sizes : length args + length (replicate (functionOf P f .locals) (pos 0)) ≡ variables (functionOf P f)
-      sizes = rw (length-replicate (functionOf P f .locals) (pos 0), la)
+  first-wellFormed = start-wellFormed P W f lf args la
 
   -- The extras of the start: the start function's locals.
   starts : ControlGoes P d (functionOf P f .locals) start (matching P first)
