@@ -10,8 +10,8 @@ use Rattle.semantics.specs.Extras.{extras}
 use Rattle.parsing.specs.declared.Refusal.{Refusal}
 use Rattle.parsing.specs.declared.Checked.{Checked}
 use Rattle.parsing.specs.declared.Checked.the-variants.{Accepted, Refused}
-use Rattle.parsing.specs.Parser.{Verdict, accepted, refused, verdictOf}
-use Rattle.memory.specs.Call.{callVerdict, afterFile}
+use Rattle.parsing.specs.Parser.{Verdict, accepted, refused, verdictOf, orElse}
+use Rattle.memory.specs.Call.{callVerdict}
 use Rattle.memory.specs.CallLaws.{accepted-fits}
 use Rattle.procedure_file.specs.Check.{checkOf, programOf}
 use Rattle.procedure_file.specs.Loaded.{LoadedOr}
@@ -38,7 +38,7 @@ refused-so s args depth budget a words r e v = (
 pub file-refused : (s : List ℕ) (args : List ℤ) (depth budget : ℕ) (a : Answer) (words : List ℤ) {v : Checked} {r : Refusal} → verdictOf v ≡ checkOf s → v ≡ Refused r → a .verdict ≡ Refused r → Answered s args depth budget a words words
 unfolding benchVerdict
 file-refused s args depth budget a words {v} {r} e q k =
-    refused-so s args depth budget a words r (ap (λ (x : Verdict). afterFile x (callVerdict (length args) (functionOf (programOf s) 0 .params) depth (length words))) (sym e ∙ ap verdictOf q)) k
+    refused-so s args depth budget a words r (ap (λ (x : Verdict). orElse x (callVerdict (length args) (functionOf (programOf s) 0 .params) depth (length words))) (sym e ∙ ap verdictOf q)) k
 
 -- The tables of an accepted file.
 module _ (s starts handlers params locals blocks starts′ handlers′ params′ locals′ blocks′ : List ℕ) {v : Checked} (e : verdictOf v ≡ checkOf s) (q : v ≡ Accepted)
@@ -59,7 +59,7 @@ module _ (s starts handlers params locals blocks starts′ handlers′ params′
     verdict-is : benchVerdict s (length args) depth (length words) ≡ callVerdict (length args) (getD params′ 0 0) depth (length words)
     unfolding benchVerdict
     verdict-is =
-        ap (λ (x : Verdict). afterFile x (callVerdict (length args) (functionOf (programOf s) 0 .params) depth (length words))) accepted-is
+        ap (λ (x : Verdict). orElse x (callVerdict (length args) (functionOf (programOf s) 0 .params) depth (length words))) accepted-is
         ∙ ap (λ (k : ℕ). callVerdict (length args) k depth (length words)) (sym wanted-is)
 
     pub call-refused : (budget : ℕ) (a : Answer) {u : Checked} {r : Refusal} → verdictOf u ≡ callVerdict (length args) (getD params′ 0 0) depth (length words) → u ≡ Refused r → a .verdict ≡ Refused r → Answered s args depth budget a words words

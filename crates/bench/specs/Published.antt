@@ -10,8 +10,8 @@ use Rattle.semantics.specs.Bench.{Frame, State, state, bench}
 use Rattle.semantics.specs.Extras.{extras}
 use Rattle.parsing.specs.declared.Checked.{Checked}
 use Rattle.parsing.specs.declared.Checked.the-variants.{Accepted, Refused}
-use Rattle.parsing.specs.Parser.{Verdict, accepted, refused}
-use Rattle.memory.specs.Call.{callVerdict, afterFile}
+use Rattle.parsing.specs.Parser.{Verdict, accepted, refused, orElse}
+use Rattle.memory.specs.Call.{callVerdict}
 use Rattle.procedure_file.specs.Check.{checkOf, programOf}
 use Rattle.bench.specs.declared.step.Regs.{Regs}
 use Rattle.bench.specs.declared.machine.Stopped.{Stopped}
@@ -40,7 +40,7 @@ toldBy a = saidOf (a .verdict) (a .stopped) (a .steps) (a .extras)
 
 -- The file's own checks, then 14, then 16.
 unfoldable pub benchVerdict : List ℕ → ℕ → ℕ → ℕ → Verdict
-benchVerdict s given depth words = afterFile (checkOf s) (callVerdict given (functionOf (programOf s) 0 .params) depth words)
+benchVerdict s given depth words = orElse (checkOf s) (callVerdict given (functionOf (programOf s) 0 .params) depth words)
 
 abbrev pub tellsBy : Verdict → Result State → ℕ → Tells
 tellsBy accepted b x = tells (told (b .stop)) (b .steps) x

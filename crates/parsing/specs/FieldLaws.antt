@@ -1,21 +1,21 @@
 -- Laws of the fields, as the functions that read them meet them.
 use Prim.Native.Nat.{ℕ, suc, _+_, _*_, _-_, _^_, _≤_, _<_}
-use mathlib.Core.Path.{_≡_, refl, sym, ap, _∙_}
-use mathlib.Core.Bool.{true, false, cond}
-use mathlib.Core.List.{List, [], _∷_}
+use mathlib.Core.Path.{_≡_}
+use mathlib.Core.Bool.{true}
+use mathlib.Core.List.{List}
 use native.Mathlib.Omega.{arith}
 use native.Mathlib.Numerals.{add-one}
 use borrow.Author.Tests.{le-leb, lt-leb, le-ltb, lt-ltb, eq-eqb, ne-eqb}
-use lib.Dec.{leb, ltb, eqb}
-use lib.IntN.{ℤ, pos, negsuc, _+ℤ_}
+use lib.Dec.{ltb}
+use lib.IntN.{pos, negsuc, _+ℤ_}
 use lib.ListN.{length, getD, drop, drop-of-length-le}
 use lib.Seq.{drop-cons}
 use mir.Syntax.{w32}
-use mir.Val.{toZ, Fits, SFits}
+use mir.Val.{toZ, SFits}
 use mir.Facts.{toZ-pos, toZ-neg, sfits-toZ}
-use Rattle.parsing.specs.declared.Scan.the-variants.{Past, Stopped}
-use Rattle.parsing.specs.Parser.{refusal, Parsed, read, refuse, pastOf}
-use Rattle.parsing.specs.Fields.{cut, marked, version, valueOf}
+use Rattle.parsing.specs.declared.Scan.the-variants.{Stopped}
+use Rattle.parsing.specs.Parser.{refusal, read, refuse, pastOf}
+use Rattle.parsing.specs.Fields.{cut, marked, version}
 
 module _ (ms s : List ℕ) (i : ℕ) where
   pub marked-short : i < length ms → length s ≤ i → pastOf (marked (drop i ms) s i) ≡ Stopped (cut s)

@@ -1,6 +1,6 @@
 -- The fields that files of both kinds share (document 01, 'What is turned down'), with the refusals 1 to 5.
 use Prim.Native.Nat.{ℕ, _+_, _*_}
-use mathlib.Core.Bool.{Bool, cond}
+use mathlib.Core.Bool.{cond}
 use mathlib.Core.List.{List, [], _∷_}
 use lib.Dec.{leb, ltb, eqb}
 use lib.IntN.{ℤ}

@@ -55,6 +55,11 @@ pub data Verdict : Type 0 where
   accepted : Verdict
   refused : (number place : ℕ) → Verdict
 
+-- The first of two answers that refuses.
+abbrev pub orElse : Verdict → Verdict → Verdict
+orElse accepted v = v
+orElse (refused n p) v = refused n p
+
 abbrev pub verdictOf : Checked → Verdict
 verdictOf Accepted = accepted
 verdictOf (Refused r) = refused (r .number) (r .place)

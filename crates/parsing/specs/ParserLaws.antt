@@ -4,15 +4,18 @@ use mathlib.Core.Path.{_≡_, refl, sym, ap, _∙_}
 use mathlib.Core.Bool.{Bool, true, false, cond}
 use mathlib.Core.List.{List, [], _∷_}
 use native.Mathlib.Omega.{arith}
-use borrow.Author.Tests.{ltb-true, ltb-false, leb-true, leb-false, lt-ltb, le-ltb}
+use borrow.Author.Tests.{ltb-true, leb-true, lt-ltb, le-ltb}
 use lib.Dec.{leb, ltb}
 use lib.ListN.{length, getD}
 use Rattle.parsing.specs.declared.Refusal.{Refusal}
-use Rattle.parsing.specs.declared.Scan.{Scan}
 use Rattle.parsing.specs.declared.Scan.the-variants.{Past, Stopped}
 use Rattle.parsing.specs.declared.Count.the-variants.{Is, Outside}
 use Rattle.parsing.specs.Parser.{refusal, Parsed, read, refuse, Parser, andThen, many, pastOf}
 use Rattle.parsing.specs.Fields.{cut, byte, count, counted}
+
+-- Two constructors that are told equal: `impossible (cc)`.
+abbrev pub impossible : {A : Type 0} → _≡_ {A = ℕ} 0 1 → A
+impossible o = absurd (omega arith)
 
 -- A part that was read, by the offset past it.
 pub record Read {A : Type 0} (x : Parsed A) (next : ℕ) : Type 0 where
@@ -21,10 +24,10 @@ pub record Read {A : Type 0} (x : Parsed A) (next : ℕ) : Type 0 where
 
 pub past-read : {A : Type 0} (x : Parsed A) {next : ℕ} → pastOf x ≡ Past next → Read x next
 past-read (read a n) e = record { what = a; is = ap (read a) (cc) }
-past-read (refuse r) e = let o : _≡_ {A = ℕ} 0 1 = cc in absurd (omega arith)
+past-read (refuse r) e = impossible (cc)
 
 pub past-refuse : {A : Type 0} (x : Parsed A) {r : Refusal} → pastOf x ≡ Stopped r → x ≡ refuse r
-past-refuse (read a n) e = let o : _≡_ {A = ℕ} 0 1 = cc in absurd (omega arith)
+past-refuse (read a n) e = impossible (cc)
 past-refuse (refuse r) e = ap refuse (cc)
 
 -- A part and what follows it.
@@ -41,7 +44,7 @@ pub record Both {A B : Type 0} (x : Parsed A) (k : A → ℕ → Parsed B) (b : 
 
 pub both : {A B : Type 0} (x : Parsed A) (k : A → ℕ → Parsed B) {b : B} {next : ℕ} → andThen x k ≡ read b next → Both x k b next
 both (read a m) k e = record { first = a; middle = m; reads = refl; follows = e }
-both (refuse r) k e = let o : _≡_ {A = ℕ} 0 1 = cc in absurd (omega arith)
+both (refuse r) k e = impossible (cc)
 
 -- One of several parts, and the others.
 module _ {A : Type 0} (p : Parser A) (s : List ℕ) (n at : ℕ) where
@@ -89,7 +92,7 @@ module _ (s : List ℕ) (at : ℕ) where
     where
       go : (t : Bool) → ltb at (length s) ≡ t → cond t (read (getD s at 0) (at + 1)) (refuse (cut s)) ≡ read n next → ReadByte n next
       go true i w = record { inside = ltb-true at (length s) i; is = cc; past = cc }
-      go false i w = let o : _≡_ {A = ℕ} 0 1 = cc in absurd (omega arith)
+      go false i w = impossible (cc)
 
   pub byte-in : at < length s → byte s at ≡ read (getD s at 0) (at + 1)
   byte-in h = rw (lt-ltb at (length s) h)
@@ -112,8 +115,8 @@ module _ (low high : ℕ) (s : List ℕ) (at : ℕ) where
       go : (k m : ℕ) → ReadByte s at k m → (t u : Bool) → leb low k ≡ t → leb k high ≡ u → cond t (cond u (read k m) (refuse (refusal 5 at))) (refuse (refusal 5 at)) ≡ read n next → ReadCount n next
       go k m b true true l h w =
           let x : k ≡ n = cc in let y : m ≡ next = cc in rw (← x, ← y) (record { byte = b; least = leb-true low k l; most = leb-true k high h })
-      go k m b true false l h w = let o : _≡_ {A = ℕ} 0 1 = cc in absurd (omega arith)
-      go k m b false u l h w = let o : _≡_ {A = ℕ} 0 1 = cc in absurd (omega arith)
+      go k m b true false l h w = impossible (cc)
+      go k m b false u l h w = impossible (cc)
 
   -- What the function that reads a count answered.
   pub count-is : {n : ℕ} → counted (count low high s at) ≡ Is n → count low high s at ≡ read n (at + 1)
@@ -121,13 +124,13 @@ module _ (low high : ℕ) (s : List ℕ) (at : ℕ) where
     where
       go : (x : Parsed ℕ) → count low high s at ≡ x → counted x ≡ Is n → x ≡ read n (at + 1)
       go (read k m) w f = let p = read-count w .byte .past in let q : k ≡ n = cc in rw (p, q)
-      go (refuse r) w f = let o : _≡_ {A = ℕ} 0 1 = cc in absurd (omega arith)
+      go (refuse r) w f = impossible (cc)
 
   pub count-outside : {r : Refusal} → counted (count low high s at) ≡ Outside r → count low high s at ≡ refuse r
   count-outside {r} e = go (count low high s at) e
     where
       go : (x : Parsed ℕ) → counted x ≡ Outside r → x ≡ refuse r
-      go (read k m) f = let o : _≡_ {A = ℕ} 0 1 = cc in absurd (omega arith)
+      go (read k m) f = impossible (cc)
       go (refuse q) f = ap refuse (cc)
 
 -- A loop over n parts, as its turns meet it.

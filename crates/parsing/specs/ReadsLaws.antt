@@ -1,14 +1,13 @@
 -- What was written is read: a reader that reads the bytes w as a, wherever they stand.
-use Prim.Native.Nat.{ℕ, zero, suc, _+_, _-_, _≤_, _<_}
+use Prim.Native.Nat.{ℕ, suc, _+_, _-_, _≤_, _<_}
 use mathlib.Core.Path.{_≡_, refl, sym, ap, _∙_}
 use mathlib.Core.List.{List, [], _∷_, _++_, append-assoc}
 use native.Mathlib.Omega.{arith}
 use borrow.Author.Tests.{lt-ltb, le-ltb, le-leb, eq-eqb}
-use lib.Dec.{leb, ltb, eqb}
-use lib.ListN.{length, getD, take, drop, length-append, length-drop}
+use lib.ListN.{length, getD, drop, length-append, length-drop}
 use lib.Seq.{drop-drop, drop-append-seam, getD-drop}
-use Rattle.parsing.specs.Parser.{Parsed, read, refuse, Parser, andThen, many, joined}
-use Rattle.parsing.specs.Fields.{cut, byte, marked, version, count, ended}
+use Rattle.parsing.specs.Parser.{read, Parser, andThen, many, joined}
+use Rattle.parsing.specs.Fields.{byte, marked, version, count, ended}
 use Rattle.parsing.specs.ParserLaws.{byte-in}
 
 -- The bytes l stand from `at` on, to the end of the file.

@@ -5,15 +5,13 @@ use mathlib.Core.Bool.{Bool, true, false, cond}
 use mathlib.Core.List.{List, [], _∷_, _++_, append-assoc}
 use native.Mathlib.Omega.{arith}
 use native.Mathlib.Numerals.{add-one}
-use native.Mathlib.Nat.{add-zero}
 use borrow.Author.Tests.{ltb-true, ltb-false, leb-true, eqb-true}
 use lib.Dec.{leb, ltb, eqb}
 use lib.ListN.{length, getD, take, drop, length-append}
 use lib.Seq.{drop-cons}
-use Rattle.parsing.specs.declared.Refusal.{Refusal}
-use Rattle.parsing.specs.Parser.{refusal, Parsed, read, refuse, Parser, joined}
+use Rattle.parsing.specs.Parser.{refusal, read, refuse, Parser, joined}
 use Rattle.parsing.specs.Fields.{cut, byte, marked, version, ended}
-use Rattle.parsing.specs.ParserLaws.{ReadMany, none, one, ReadByte, read-byte}
+use Rattle.parsing.specs.ParserLaws.{impossible, ReadMany, none, one}
 
 -- The bytes w stand from `at` on, up to `next`.
 pub record Wrote (s : List ℕ) (at next : ℕ) (w : List ℕ) : Type 0 where
@@ -49,8 +47,8 @@ module _ (s : List ℕ) where
       go true true i j f w =
           let q = eqb-true (getD s at 0) m j in
           rw (← q) (wrote-cons (ltb-true at (length s) i) (f w))
-      go true false i j f w = let o : _≡_ {A = ℕ} 0 1 = cc in absurd (omega arith)
-      go false v i j f w = let o : _≡_ {A = ℕ} 0 1 = cc in absurd (omega arith)
+      go true false i j f w = impossible (cc)
+      go false v i j f w = impossible (cc)
 
   pub wrote-version : (at : ℕ) {u : Unit {0}} {next : ℕ} → version s at ≡ read u next → Wrote s at next (1 ∷ 0 ∷ [])
   unfolding version
@@ -69,15 +67,15 @@ module _ (s : List ℕ) where
         where
           go₂ : {x y m : ℕ} → x ≡ 1 → y ≡ 0 → m ≡ next → Wrote s at m (x ∷ y ∷ []) → Wrote s at next (1 ∷ 0 ∷ [])
           go₂ a b p r = rw (a, b, p) at r
-      go true false i j w = let o : _≡_ {A = ℕ} 0 1 = cc in absurd (omega arith)
-      go false v i j w = let o : _≡_ {A = ℕ} 0 1 = cc in absurd (omega arith)
+      go true false i j w = impossible (cc)
+      go false v i j w = impossible (cc)
 
   pub read-ended : (at : ℕ) {u : Unit {0}} {next : ℕ} → ended s at ≡ read u next → (length s ≤ at) × (next ≡ at)
   unfolding ended
   read-ended at {u} {next} e = go (ltb at (length s)) refl e
     where
       go : (t : Bool) → ltb at (length s) ≡ t → cond t (refuse (refusal 4 at)) (read tt at) ≡ read u next → (length s ≤ at) × (next ≡ at)
-      go true i w = let o : _≡_ {A = ℕ} 0 1 = cc in absurd (omega arith)
+      go true i w = impossible (cc)
       go false i w = (ltb-false at (length s) i, cc)
 
 -- The bytes from an offset on, counted from i.

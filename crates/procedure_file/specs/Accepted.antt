@@ -2,6 +2,7 @@
 -- well-formed (figure 3), and at most 32,768 bytes long.
 use Prim.Native.Nat.{ℕ, _≤_, _<_}
 use mathlib.Core.Path.{_≡_}
+use mathlib.Core.Logic.{_↔_}
 use mathlib.Core.List.{List}
 use lib.ListN.{length, getD}
 use Rattle.parsing.specs.Parser.{accepted}
@@ -22,9 +23,13 @@ pub record HasFile (P : Program) : Type 0 where
 
 -- The statement, which AcceptedLaws proves.
 pub record Acceptance : Type 0 where
+  -- Accepted exactly when written by such a program.
+  pub exactly : (s : List ℕ) → Bytes s → (checkOf s ≡ accepted) ↔ ((P : Program) × HasFile P × (s ≡ writing P))
   -- An accepted file is the writing of the program that is read.
   pub isWriting : (s : List ℕ) → Bytes s → checkOf s ≡ accepted → HasFile (programOf s) × (s ≡ writing (programOf s))
   -- The writing of every such program is accepted, and it is the program that is read.
   pub isAccepted : (P : Program) → HasFile P → (checkOf (writing P) ≡ accepted) × (programOf (writing P) ≡ P)
+  -- Its file is a list of bytes.
+  pub isBytes : (P : Program) → HasFile P → Bytes (writing P)
   -- No two programs share a file.
   pub isOne : (P Q : Program) → HasFile P → HasFile Q → writing P ≡ writing Q → P ≡ Q

@@ -3,23 +3,21 @@ use Prim.Native.Nat.{ℕ, _≤_, _<_}
 use mathlib.Core.Path.{_≡_, refl, sym, ap, _∙_}
 use mathlib.Core.Bool.{Bool, true, false, cond}
 use mathlib.Core.List.{List}
-use native.Mathlib.Omega.{arith}
 use borrow.Author.Tests.{leb-true, le-leb, lt-leb}
 use lib.Dec.{leb}
-use lib.ListN.{length, getD}
-use Rattle.parsing.specs.Parser.{Parsed, read, refuse, Verdict, accepted, refused}
+use lib.ListN.{length}
+use Rattle.parsing.specs.ParserLaws.{impossible}
+use Rattle.parsing.specs.Parser.{Parsed, read, refuse, accepted, refused}
 use Rattle.semantics.specs.Program.{Program}
 use Rattle.procedure_layout.specs.Layout.{program}
-use Rattle.procedure_names.specs.Writing.{writing, InRange}
+use Rattle.procedure_names.specs.Writing.{writing}
 use Rattle.procedure_names.specs.Names.{namesOf, firstWrong}
 use Rattle.procedure_file.specs.Check.{named, checkOf, programRead, programOf}
 use Rattle.procedure_file.specs.Accepted.{Bytes, HasFile, Acceptance}
 use Rattle.procedure_file.specs.WrittenLaws.{ReadProgram, read-program, written, in-range}
 use Rattle.procedure_file.specs.ReadsBackLaws.{reads-program}
+use Rattle.procedure_file.specs.BytesLaws.{writing-bytes}
 use Rattle.procedure_names.specs.NamesLaws.{names-right, names-formed}
-
-abbrev impossible : {A : Type 0} → _≡_ {A = ℕ} 0 1 → A
-impossible o = absurd (omega arith)
 
 -- A file whose layout is whole, of the length that is allowed, as a list of bytes.
 pub record Laid (s : List ℕ) : Type 0 where
@@ -83,7 +81,12 @@ is-accepted P h =
 pub acceptance : Acceptance
 acceptance =
     record {
+      exactly = λ s bytes. (
+        (λ e. (programOf s, is-writing s bytes e .0, is-writing s bytes e .1)),
+        (λ w. ap checkOf (w .2) ∙ is-accepted (w .0) (w .1) .0),
+      );
       isWriting = is-writing;
       isAccepted = is-accepted;
+      isBytes = writing-bytes;
       isOne = λ P Q p q e. sym (is-accepted P p .1) ∙ ap programOf e ∙ is-accepted Q q .1;
     }

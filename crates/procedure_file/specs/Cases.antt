@@ -3,7 +3,7 @@ use Prim.Native.Nat.{ℕ}
 use mathlib.Core.Path.{_≡_, refl}
 use mathlib.Core.List.{List, [], _∷_, _++_, map}
 use lib.ListN.{take, set}
-use Rattle.parsing.specs.Parser.{Verdict, accepted, refused, Parsed, read, refuse, andThen, refusal}
+use Rattle.parsing.specs.Parser.{Verdict, accepted, refused}
 use Rattle.parsing.specs.Fields.{version, count, ended, valueOf}
 use Rattle.procedure_layout.specs.Operation.{operationAt, constantAt, copyAt, differenceAt, callAt, gotoAt, returnAt, branchAt, endAt}
 use Rattle.procedure_layout.specs.Layout.{walk, block, labelled, heading, function, program}

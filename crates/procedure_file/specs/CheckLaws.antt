@@ -1,11 +1,11 @@
 -- Laws of the check, as the function meets them.
-use Prim.Native.Nat.{ℕ, _≤_, _<_}
-use mathlib.Core.Path.{_≡_, refl, sym, ap, _∙_}
+use Prim.Native.Nat.{ℕ, _≤_}
+use mathlib.Core.Path.{_≡_, sym, ap, _∙_}
 use mathlib.Core.List.{List}
 use lib.ListN.{length}
 use Rattle.parsing.specs.declared.Refusal.{Refusal}
 use Rattle.parsing.specs.declared.Scan.the-variants.{Past, Stopped}
-use Rattle.parsing.specs.Parser.{Parsed, read, refuse, pastOf, Verdict, accepted, refused}
+use Rattle.parsing.specs.Parser.{pastOf, refused}
 use Rattle.parsing.specs.ParserLaws.{past-read, past-refuse}
 use Rattle.semantics.specs.Program.{Program}
 use Rattle.procedure_layout.specs.Layout.{program}

@@ -1,11 +1,11 @@
 -- What upper crates may rest on: the facts of an accepted file. Their proof is in FactsLaws.
-use Prim.Native.Nat.{ℕ, suc, _+_, _≤_, _<_}
+use Prim.Native.Nat.{ℕ, _+_, _≤_, _<_}
 use mathlib.Core.Path.{_≡_}
 use mathlib.Core.List.{List, _++_}
 use mathlib.Core.Option.{some}
 use lib.ListN.{length, getD, drop, getElem?}
 use Rattle.parsing.specs.declared.Refusal.{Refusal}
-use Rattle.semantics.specs.Program.{Block, Labelled, Function, Program, variables, functionOf}
+use Rattle.semantics.specs.Program.{Function, variables, functionOf}
 use Rattle.semantics.specs.Bench.{labelledAt}
 use Rattle.semantics.specs.WellFormed.{IsLabel, WellFormed, WellFormedBlock}
 use Rattle.procedure_layout.specs.declared.operation.Operation.the-variants.{Call, Refused}
@@ -40,6 +40,7 @@ pub record Facts (s : List ℕ) : Type 0 where
   pub most : length (programOf s) ≤ 32
   pub counts : (f : ℕ) → f < length (programOf s) → Counts (functionOf (programOf s) f)
   pub short : length s ≤ 32768
+  pub function : (f : ℕ) → f < length (programOf s) → getElem? (programOf s) f ≡ some (functionOf (programOf s) f)
   -- Where its blocks stand: label 0 is the entry block.
   pub start : (f l : ℕ) → f < length (programOf s) → l ≤ length (functionOf (programOf s) f .blocks) → Stands s f (startOf (programOf s) f l)
   pub block : (f l : ℕ) → f < length (programOf s) → l ≤ length (functionOf (programOf s) f .blocks)

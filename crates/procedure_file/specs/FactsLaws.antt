@@ -1,42 +1,38 @@
 -- The facts of an accepted file, proved.
 use Prim.Native.Nat.{ℕ, zero, suc, _+_, _≤_, _<_}
-use mathlib.Core.Path.{_≡_, refl, sym, ap, _∙_, subst}
-use mathlib.Core.List.{List, [], _∷_, _++_}
-use mathlib.Core.Option.{Option, some, none}
+use mathlib.Core.Path.{_≡_, refl, ap, _∙_}
+use mathlib.Core.List.{List, [], _∷_}
+use mathlib.Core.Option.{some, none}
 use native.Mathlib.Omega.{arith}
-use lib.ListN.{length, getD, take, drop, getElem?, length-drop}
+use lib.ListN.{length, getD, drop, getElem?, length-drop}
 use lib.Seq.{length-take-le, getD-take, getD-drop}
 use Rattle.parsing.specs.declared.Refusal.{Refusal}
-use Rattle.parsing.specs.Parser.{Parsed, read, refuse, accepted}
-use Rattle.parsing.specs.WroteLaws.{Wrote}
-use Rattle.semantics.specs.Program.{Block, constant, copy, difference, call, goto, return, branch, raise, Labelled, Function, Program, variables, functionOf, noFunction}
+use Rattle.parsing.specs.ParserLaws.{impossible}
+use Rattle.parsing.specs.Parser.{read, accepted}
+use Rattle.semantics.specs.Program.{Block, Function, Program, variables, functionOf, noFunction}
 use Rattle.semantics.specs.Bench.{labelledAt}
-use Rattle.semantics.specs.WellFormed.{All, IsLabel, WellFormed, WellFormedBlock, WellFormedLabelled, WellFormedFunction}
-use Rattle.procedure_layout.specs.declared.operation.Operation.{Operation}
-use Rattle.procedure_layout.specs.declared.operation.Operation.the-variants.{Constant, Copy, Difference, Call, Goto, Return, Branch, Raise, Refused}
-use Rattle.procedure_layout.specs.declared.layout.After.the-variants.{Onward, Ended, Halted}
+use Rattle.semantics.specs.WellFormed.{IsLabel, WellFormed, WellFormedBlock, WellFormedLabelled, WellFormedFunction}
+use Rattle.procedure_layout.specs.declared.operation.Operation.the-variants.{Refused}
+use Rattle.procedure_layout.specs.declared.layout.After.the-variants.{Onward}
 use Rattle.procedure_layout.specs.Operation.{operationAt}
 use Rattle.procedure_layout.specs.Layout.{argumentsAt, block}
-use Rattle.procedure_names.specs.Writing.{blockBytes, ValuesFit}
+use Rattle.procedure_names.specs.Writing.{blockBytes}
 use Rattle.procedure_file.specs.Check.{checkOf, programOf}
-use Rattle.procedure_layout.specs.Rest.{restFrom, restAt}
+use Rattle.procedure_layout.specs.Rest.{restAt}
 use Rattle.procedure_layout.specs.After.{afterOf}
 use Rattle.procedure_file.specs.Places.{startOf, noLabelled, blockOf, handlerOf}
 use Rattle.procedure_file.specs.Accepted.{Bytes}
-use Rattle.procedure_file.specs.Facts.{Stands, Counts, Facts}
-use Rattle.procedure_layout.specs.ViewLaws.{View, isConstant, isCopy, isDifference, isCall, isGoto, isReturn, isBranch, isRaise, isRefused, view}
+use Rattle.procedure_file.specs.Facts.{Stands, Facts}
 use Rattle.procedure_layout.specs.WalkLaws.{rest-law}
 use Rattle.procedure_layout.specs.LayoutLaws.{onward-moves}
 use Rattle.procedure_layout.specs.BlockLaws.{ReadBlock, readConstant, readCopy, readDifference, readCall, readGoto, readReturn, readBranch, readRaise, read-block}
 use Rattle.procedure_file.specs.WrittenLaws.{wrote-block, fit-block}
 use Rattle.procedure_file.specs.ReadsBackLaws.{all-at, reads-block}
-use Rattle.procedure_file.specs.AcceptedLaws.{Laid, Passed, passed, laid-by, is-writing}
+use Rattle.procedure_file.specs.AcceptedLaws.{passed, laid-by, is-writing}
 use Rattle.procedure_names.specs.NamedLaws.{call-room}
-use Rattle.procedure_file.specs.PlacesLaws.{op-constant, op-copy, op-difference, op-call, op-goto, op-return, op-branch, op-raise, rest-is, block-inside, start-at}
+use Rattle.procedure_file.specs.PlacesLaws.{rest-is, block-inside, start-at}
+use Rattle.procedure_layout.specs.OperationLaws.{op-constant, op-copy, op-difference, op-call, op-goto, op-return, op-branch, op-raise}
 use Rattle.procedure_file.specs.FillLaws.{few-params, few-locals, few-blocks}
-
-abbrev impossible : {A : Type 0} → _≡_ {A = ℕ} 0 1 → A
-impossible o = absurd (omega arith)
 
 -- Where an operation stands, its block was read.
 stands-read : (s : List ℕ) (f at : ℕ) (w : Stands s f at) → ReadBlock s at (restAt s at) (at + length (blockBytes (restAt s at)))
@@ -115,6 +111,7 @@ facts s bytes e =
       most = L .reads .most;
       counts = λ f h. record { params = few-params s L f h; locals = few-locals s L f h; blocks = few-blocks s L f h };
       short = L .short;
+      function = λ f h. element P f noFunction h;
       start = λ f l h k. read-stands s bytes f (startOf P f l) _ _ h (start-at s bytes P (L .reads) f h l k) (formed-at P (t .0 .wellFormed) f l h k);
       block = λ f l h k. rest-is s (start-at s bytes P (L .reads) f h l k);
       labelled = λ f l h. labelled-is (functionOf P f) l h;

@@ -1,23 +1,23 @@
 -- Laws of the names of a whole file, as the functions that judge them meet them.
 use Prim.Native.Nat.{ℕ, zero, suc, _+_, _-_, _*_, _≤_, _<_}
-use mathlib.Core.Path.{_≡_, refl, sym, ap, ap₂, _∙_}
-use mathlib.Core.List.{List, [], _∷_, _++_, map}
+use mathlib.Core.Path.{_≡_, sym, ap, ap₂, _∙_}
+use mathlib.Core.List.{List, _∷_}
 use native.Mathlib.Omega.{arith}
-use lib.ListN.{length, getD, take, drop, length-take, length-map, drop-of-length-le}
-use lib.Seq.{drop-cons, drop-length, ext-getD, getD-take, length-take-le}
+use lib.ListN.{length, getD, take, drop, length-map, drop-of-length-le}
+use lib.Seq.{drop-cons, ext-getD, getD-take, length-take-le}
 use Rattle.parsing.specs.declared.Refusal.{Refusal}
 use Rattle.parsing.specs.declared.Checked.{Checked}
 use Rattle.parsing.specs.declared.Checked.the-variants.{Accepted}
-use Rattle.parsing.specs.Parser.{Verdict, accepted, refused, verdictOf}
-use Rattle.semantics.specs.Program.{Block, Labelled, Function, Program, variables, functionOf, noFunction}
-use Rattle.procedure_names.specs.Writing.{blockBytes, labelledBytes, functionBytes}
-use Rattle.procedure_names.specs.Names.{Name, handler, blockNames, labelledNames, functionNames, functionsNames, arities, namesOf, firstWrong}
+use Rattle.parsing.specs.Parser.{Verdict, accepted, refused, orElse, verdictOf}
+use Rattle.semantics.specs.Program.{Block, Function, Program, variables, functionOf, noFunction}
+use Rattle.procedure_names.specs.Writing.{blockBytes}
+use Rattle.procedure_names.specs.Names.{handler, blockNames, labelledNames, functionNames, functionsNames, arities, namesOf, firstWrong}
 use Rattle.procedure_file.specs.Check.{programOf}
 use Rattle.procedure_layout.specs.Rest.{restAt}
 use Rattle.procedure_file.specs.Places.{functionPlace, labelPlace, startOf, noLabelled, blockOf, handlerOf}
-use Rattle.procedure_file.specs.Tables.{slot, BlockEntry, CountEntry, BlockEntries, CountEntries, Tables}
+use Rattle.procedure_file.specs.Tables.{CountEntry, BlockEntries, Tables}
 use Rattle.procedure_file.specs.AcceptedLaws.{Laid}
-use Rattle.procedure_names.specs.NamesLaws.{orElse, first-append, arity-of}
+use Rattle.procedure_names.specs.NamesLaws.{first-append, arity-of}
 use Rattle.procedure_file.specs.PlacesLaws.{rest-is, start-at, label-next, function-next}
 use Rattle.procedure_file.specs.FillLaws.{few-blocks, few-params, few-locals, few-functions, Given}
 

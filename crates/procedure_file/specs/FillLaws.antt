@@ -8,15 +8,14 @@ use native.Mathlib.Decide.{decLe, decLt}
 use native.Mathlib.Nat.{lt-trans}
 use lib.ListN.{length, getD, set, drop, length-set, length-append}
 use lib.Seq.{getD-set-same, getD-set-other}
-use Rattle.parsing.specs.Parser.{Parsed, read, refuse}
-use Rattle.semantics.specs.Program.{Block, Function, Program, functionOf}
+use Rattle.semantics.specs.Program.{Function, Program, functionOf}
 use Rattle.procedure_layout.specs.Layout.{block}
 use Rattle.procedure_layout.specs.After.{endOf}
 use Rattle.procedure_file.specs.Check.{programOf}
-use Rattle.procedure_file.specs.Places.{functionPlace, labelPlace, startOf, noLabelled, blockOf, handlerOf}
+use Rattle.procedure_file.specs.Places.{functionPlace, labelPlace, startOf, handlerOf}
 use Rattle.procedure_file.specs.Tables.{slot, BlockEntry, CountEntry, BlockEntries, CountEntries, Tables}
 use Rattle.procedure_file.specs.AcceptedLaws.{Laid}
-use Rattle.procedure_file.specs.PlacesLaws.{block-is, block-inside, function-at, entry-at, label-at, function-ends, handler-at, start-at}
+use Rattle.procedure_file.specs.PlacesLaws.{block-is, block-inside, function-at, label-at, function-ends, handler-at, start-at}
 
 -- Entries after a store.
 module _ (P : Program) (starts handlers : List ℕ) (i x y : ℕ) where

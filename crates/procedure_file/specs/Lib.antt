@@ -9,6 +9,7 @@ pub mod Facts
 pub mod Cases
 pub mod WrittenLaws
 pub mod ReadsBackLaws
+pub mod BytesLaws
 pub mod AcceptedLaws
 pub mod PlacesLaws
 pub mod FillLaws
@@ -16,3 +17,4 @@ pub mod FileNamesLaws
 pub mod CheckLaws
 pub mod FactsLaws
 pub mod LookupLaws
+pub mod LoadedLaws

@@ -5,7 +5,7 @@ use mathlib.Core.Bool.{cond}
 use mathlib.Core.List.{List, []}
 use lib.Dec.{leb, ltb}
 use lib.ListN.{length, getD}
-use Rattle.parsing.specs.Parser.{Verdict, accepted, refused, refusal}
+use Rattle.parsing.specs.Parser.{Verdict, accepted, refused, orElse, refusal}
 use Rattle.semantics.specs.Program.{Function, Program, functionOf}
 use Rattle.procedure_file.specs.declared.lookup.Place.{Place}
 use Rattle.procedure_file.specs.declared.lookup.Place.the-variants.{At, Nowhere}
@@ -18,12 +18,8 @@ abbrev pub blockThere : Program → ℕ → ℕ → Verdict
 blockThere P f l =
     cond (ltb f (length P)) (cond (leb l (length (functionOf P f .blocks))) accepted (refused 8 0)) (refused 9 0)
 
-abbrev pub afterCheck : Verdict → Verdict → Verdict
-afterCheck accepted v = v
-afterCheck (refused n p) v = refused n p
-
 unfoldable pub lookupOf : List ℕ → ℕ → ℕ → Verdict
-lookupOf s f l = afterCheck (checkOf s) (blockThere (programOf s) f l)
+lookupOf s f l = orElse (checkOf s) (blockThere (programOf s) f l)
 
 -- The bytes of the block with a label, handler byte included.
 abbrev pub stretch : Function → ℕ → List ℕ

@@ -2,7 +2,7 @@
 use Prim.Native.Nat.{ℕ, zero, suc, _+_, _-_, _*_, _≤_, _<_}
 use mathlib.Core.Path.{_≡_, refl, sym, ap, ap₂, _∙_, subst}
 use mathlib.Core.Bool.{Bool, true, false, cond}
-use mathlib.Core.List.{List, [], _∷_, _++_}
+use mathlib.Core.List.{List, []}
 use native.Mathlib.Omega.{arith}
 use borrow.Author.Tests.{leb-true, le-leb, lt-leb, ltb-true, lt-ltb, le-ltb}
 use lib.Dec.{leb, ltb}
@@ -11,28 +11,23 @@ use lib.Seq.{take-at}
 use Rattle.parsing.specs.declared.Refusal.{Refusal}
 use Rattle.parsing.specs.declared.Checked.{Checked}
 use Rattle.parsing.specs.declared.Checked.the-variants.{Accepted}
-use Rattle.parsing.specs.Parser.{Verdict, accepted, refused, verdictOf, refusal}
+use Rattle.parsing.specs.ParserLaws.{impossible}
+use Rattle.parsing.specs.Parser.{Verdict, accepted, refused, orElse, verdictOf, refusal}
 use Rattle.parsing.specs.WroteLaws.{Wrote, wrote-cons}
-use Rattle.semantics.specs.Program.{Block, Labelled, Function, Program, functionOf}
-use Rattle.procedure_file.specs.declared.lookup.Place.{Place}
+use Rattle.semantics.specs.Program.{Program, functionOf}
 use Rattle.procedure_file.specs.declared.lookup.Place.the-variants.{At, Nowhere}
-use Rattle.procedure_names.specs.declared.names.FunctionNumber.{FunctionNumber}
 use Rattle.procedure_layout.specs.Layout.{block}
 use Rattle.procedure_layout.specs.After.{endOf}
-use Rattle.procedure_names.specs.Writing.{blockBytes, labelledBytes}
 use Rattle.procedure_file.specs.Check.{checkOf, programOf}
 use Rattle.procedure_file.specs.Accepted.{Bytes}
-use Rattle.procedure_file.specs.Places.{functionPlace, labelPlace, startOf, noLabelled, blockOf, handlerOf}
-use Rattle.procedure_file.specs.Tables.{slot, BlockEntry, BlockEntries, CountEntry, CountEntries, Tables}
-use Rattle.procedure_file.specs.Loaded.{Loaded, Unchanged, LoadedOr}
-use Rattle.procedure_file.specs.Lookup.{blockThere, afterCheck, lookupOf, stretch, stretchBy, stretchOf, stretchStart, placeBy, placeOf}
-use Rattle.procedure_file.specs.AcceptedLaws.{Laid, Passed, passed, laid-by}
+use Rattle.procedure_file.specs.Places.{labelPlace, startOf}
+use Rattle.procedure_file.specs.Tables.{slot}
+use Rattle.procedure_file.specs.Loaded.{LoadedOr}
+use Rattle.procedure_file.specs.Lookup.{blockThere, lookupOf, stretch, stretchBy, stretchOf, stretchStart, placeBy, placeOf}
+use Rattle.procedure_file.specs.AcceptedLaws.{Laid, passed, laid-by}
 use Rattle.procedure_file.specs.WrittenLaws.{wrote-block}
 use Rattle.procedure_file.specs.PlacesLaws.{block-inside, start-at, label-at}
 use Rattle.procedure_file.specs.FillLaws.{few-functions, few-blocks, end-is, Given}
-
-abbrev impossible : {A : Type 0} → _≡_ {A = ℕ} 0 1 → A
-impossible o = absurd (omega arith)
 
 pub accepted-laid : (s : List ℕ) → Bytes s → (r : Checked) → verdictOf r ≡ checkOf s → r ≡ Accepted → Laid s × (checkOf s ≡ accepted)
 accepted-laid s bytes r e x =
@@ -146,7 +141,7 @@ module _ (s : List ℕ) (f l : ℕ) where
   stretch-none q e = rw (by-place (lookupOf s f l) (programOf s) q e)
 
   -- The stretch is the block's bytes.
-  accepted-both : (v u : Verdict) → afterCheck v u ≡ accepted → (v ≡ accepted) × (u ≡ accepted)
+  accepted-both : (v u : Verdict) → orElse v u ≡ accepted → (v ≡ accepted) × (u ≡ accepted)
   accepted-both accepted u e = (refl, e)
   accepted-both (refused n p) u e = impossible (cc)
 

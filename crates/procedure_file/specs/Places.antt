@@ -1,7 +1,5 @@
 -- Where the functions and blocks of a program stand in its file: each begins behind the writing of those before it.
-use Prim.Native.Nat.{ℕ, zero, suc, _+_, _*_, _≤_, _<_}
-use mathlib.Core.Path.{_≡_}
-use mathlib.Core.List.{List, []}
+use Prim.Native.Nat.{ℕ, zero, suc, _+_}
 use lib.ListN.{length, getD, take}
 use Rattle.parsing.specs.Parser.{joined}
 use Rattle.semantics.specs.Program.{Block, raise, Labelled, Function, Program, functionOf}

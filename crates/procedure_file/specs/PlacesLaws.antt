@@ -1,58 +1,26 @@
 -- What stands at the places of a file that was read.
-use Prim.Native.Nat.{ℕ, zero, suc, _+_, _*_, _≤_, _<_}
-use mathlib.Core.Path.{_≡_, refl, sym, ap, _∙_, subst}
-use mathlib.Core.List.{List, [], _∷_}
+use Prim.Native.Nat.{ℕ, zero, suc, _+_, _≤_, _<_}
+use mathlib.Core.Path.{_≡_, sym, ap, _∙_}
+use mathlib.Core.List.{List}
 use native.Mathlib.Omega.{arith}
-use lib.IntN.{ℤ}
-use lib.ListN.{length, getD, take, drop, length-drop}
+use lib.ListN.{length, getD, take}
 use lib.Seq.{take-all}
-use Rattle.parsing.specs.Parser.{Parsed, read, refuse, joined}
+use Rattle.parsing.specs.Parser.{read, joined}
 use Rattle.parsing.specs.Fields.{valueAt}
 use Rattle.parsing.specs.ParserLaws.{ReadMany}
-use Rattle.parsing.specs.WroteLaws.{Wrote, wrote-many, many-at}
-use Rattle.semantics.specs.Program.{Block, constant, copy, difference, call, goto, return, branch, raise, Labelled, Function, Program, noFunction, functionOf}
+use Rattle.parsing.specs.WroteLaws.{wrote-many, many-at}
+use Rattle.semantics.specs.Program.{Block, constant, copy, difference, call, Labelled, Function, Program, noFunction, functionOf}
 use Rattle.procedure_layout.specs.declared.operation.Operation.{Operation}
-use Rattle.procedure_layout.specs.declared.operation.Operation.the-variants.{Constant, Copy, Difference, Call, Goto, Return, Branch, Raise, Refused}
 use Rattle.procedure_layout.specs.Operation.{operationAt}
 use Rattle.procedure_layout.specs.Layout.{blockFrom, before, argumentsAt, block, labelled, function}
-use Rattle.procedure_names.specs.Writing.{blockBytes, labelledBytes, functionBytes}
+use Rattle.procedure_names.specs.Writing.{labelledBytes, functionBytes}
 use Rattle.procedure_layout.specs.Rest.{restFrom, restAt}
 use Rattle.procedure_file.specs.Accepted.{Bytes}
 use Rattle.procedure_file.specs.Places.{functionPlace, labelPlace, startOf, noLabelled, blockOf, handlerOf}
-use Rattle.procedure_layout.specs.OperationLaws.{operation-1, operation-2, operation-3, operation-4, constant-in, copy-in, difference-in, call-in, goto-in, return-in, branch-in, end-5, end-6, end-7, end-8}
+use Rattle.procedure_layout.specs.OperationLaws.{op-constant, op-copy, op-difference, op-call, op-goto, op-return, op-branch, op-raise}
 use Rattle.procedure_layout.specs.WalkLaws.{block-law, rest-law}
-use Rattle.procedure_layout.specs.BlockLaws.{ReadBlock, readConstant, readCopy, readDifference, readCall, readGoto, readReturn, readBranch, readRaise, read-block}
+use Rattle.procedure_layout.specs.BlockLaws.{ReadBlock, readConstant, readCopy, readDifference, readCall, readGoto, readReturn, readBranch, readRaise}
 use Rattle.procedure_file.specs.WrittenLaws.{wrote-block, wrote-labelled, wrote-function, ReadLabelled, read-labelled, ReadFunction, read-function, ReadProgram}
-use Rattle.procedure_file.specs.ReadsBackLaws.{operation-ends}
-
--- The operation at an offset, by its number.
-module _ (s : List ℕ) (at : ℕ) where
-  pub op-constant : getD s at 0 ≡ 1 → at + 6 ≤ length s → operationAt s at ≡ Constant (getD s (at + 1) 0) (valueAt s (at + 2)) (at + 6)
-  op-constant e h = operation-1 s at (omega arith) e ∙ constant-in s at h
-
-  pub op-copy : getD s at 0 ≡ 2 → at + 3 ≤ length s → operationAt s at ≡ Copy (getD s (at + 1) 0) (getD s (at + 2) 0) (at + 3)
-  op-copy e h = operation-2 s at (omega arith) e ∙ copy-in s at h
-
-  pub op-difference : getD s at 0 ≡ 3 → at + 4 ≤ length s
-      → operationAt s at ≡ Difference (getD s (at + 1) 0) (getD s (at + 2) 0) (getD s (at + 3) 0) (at + 4)
-  op-difference e h = operation-3 s at (omega arith) e ∙ difference-in s at h
-
-  pub op-call : getD s at 0 ≡ 4 → at + 4 + getD s (at + 3) 0 ≤ length s
-      → operationAt s at ≡ Call (getD s (at + 1) 0) (getD s (at + 2) 0) (getD s (at + 3) 0) (at + 4 + getD s (at + 3) 0)
-  op-call e h = operation-4 s at (omega arith) e ∙ call-in s at h
-
-  pub op-goto : getD s at 0 ≡ 5 → at + 2 ≤ length s → operationAt s at ≡ Goto (getD s (at + 1) 0) (at + 2)
-  op-goto e h = operation-ends s at 5 (omega arith) e (omega arith) ∙ end-5 s at 5 refl ∙ goto-in s at h
-
-  pub op-return : getD s at 0 ≡ 6 → at + 2 ≤ length s → operationAt s at ≡ Return (getD s (at + 1) 0) (at + 2)
-  op-return e h = operation-ends s at 6 (omega arith) e (omega arith) ∙ end-6 s at 6 refl ∙ return-in s at h
-
-  pub op-branch : getD s at 0 ≡ 7 → at + 5 ≤ length s
-      → operationAt s at ≡ Branch (getD s (at + 1) 0) (getD s (at + 2) 0) (getD s (at + 3) 0) (getD s (at + 4) 0) (at + 5)
-  op-branch e h = operation-ends s at 7 (omega arith) e (omega arith) ∙ end-7 s at 7 refl ∙ branch-in s at h
-
-  pub op-raise : getD s at 0 ≡ 8 → at + 1 ≤ length s → operationAt s at ≡ Raise (at + 1)
-  op-raise e h = operation-ends s at 8 (omega arith) e (omega arith) ∙ end-8 s at 8 refl
 
 module _ (s : List ℕ) where
   from : (at : ℕ) (o : Operation) → operationAt s at ≡ o → block s at ≡ blockFrom s at o (block s)

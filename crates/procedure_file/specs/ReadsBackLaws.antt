@@ -1,25 +1,25 @@
 -- The writing of a program in range is read as that program.
-use Prim.Native.Nat.{ℕ, zero, suc, _+_, _*_, _/_, _%_, _^_, _-_, _≤_, _<_}
+use Prim.Native.Nat.{ℕ, zero, suc, _+_, _*_, _/_, _%_, _≤_, _<_}
 use mathlib.Core.Path.{_≡_, refl, sym, ap, _∙_}
 use mathlib.Core.List.{List, [], _∷_, _++_, append-nil, append-assoc}
 use native.Mathlib.Omega.{arith}
-use lib.IntN.{ℤ, pos, negsuc}
+use lib.IntN.{ℤ}
 use lib.ListN.{length, getD, take, drop, length-append}
 use lib.Seq.{take-at}
 use mir.Syntax.{w32}
-use mir.Val.{toZ, ofZ, SFits}
+use mir.Val.{ofZ, SFits}
 use mir.Facts.{toZ-ofZ}
-use Rattle.parsing.specs.Parser.{Parsed, read, refuse, Parser, andThen, many, joined}
-use Rattle.parsing.specs.Fields.{byte, marked, version, count, ended, valueOf, valueAt}
+use Rattle.parsing.specs.Parser.{read, andThen, many, joined}
+use Rattle.parsing.specs.Fields.{byte, count, valueOf, valueAt}
 use Rattle.parsing.specs.ReadsLaws.{Reads, behind, byte-here, first-here, length-here, next-here, reads-bind, reads-map, reads-many, reads-byte, reads-count, reads-marked, reads-version, reads-ended}
 use Rattle.semantics.specs.Program.{Block, constant, copy, difference, call, goto, return, branch, raise, Labelled, Function, Program}
 use Rattle.semantics.specs.WellFormed.{All}
 use Rattle.procedure_layout.specs.declared.operation.Operation.{Operation}
-use Rattle.procedure_layout.specs.declared.operation.Operation.the-variants.{Constant, Copy, Difference, Call, Goto, Return, Branch, Raise, Refused}
-use Rattle.procedure_layout.specs.Operation.{operationAt, endAt}
-use Rattle.procedure_layout.specs.Layout.{spf, argumentsAt, blockFrom, before, block, labelled, Heading, heading, function, program}
+use Rattle.procedure_layout.specs.declared.operation.Operation.the-variants.{Constant, Copy, Difference, Call, Goto, Return, Branch, Raise}
+use Rattle.procedure_layout.specs.Operation.{operationAt}
+use Rattle.procedure_layout.specs.Layout.{spf, argumentsAt, blockFrom, before, block, labelled, heading, function, program}
 use Rattle.procedure_names.specs.Writing.{valueBytes, blockBytes, labelledBytes, functionBytes, writing, ValuesFit, FunctionInRange, InRange}
-use Rattle.procedure_layout.specs.OperationLaws.{operation-1, operation-2, operation-3, operation-4, operation-end, constant-in, copy-in, difference-in, call-in, goto-in, return-in, branch-in, end-5, end-6, end-7, end-8}
+use Rattle.procedure_layout.specs.OperationLaws.{op-constant, op-copy, op-difference, op-call, op-goto, op-return, op-branch, op-raise}
 use Rattle.procedure_layout.specs.WalkLaws.{block-law}
 
 -- What holds of every element holds of each.
@@ -37,11 +37,6 @@ value-forth i f =
     let e : n % 256 + 256 * (n / 256 % 256) + 65536 * (n / 256 / 256 % 256) + 16777216 * (n / 256 / 256 / 256) ≡ n = omega arith in
     rw e (toZ-ofZ f)
 
--- An operation that ends a block, at an offset.
-pub operation-ends : (s : List ℕ) (at k : ℕ) → at < length s → getD s at 0 ≡ k → 5 ≤ k → operationAt s at ≡ endAt s at k
-operation-ends s at k i e h =
-    operation-end s at i (λ w. omega arith) (λ w. omega arith) (λ w. omega arith) (λ w. omega arith) ∙ ap (endAt s at) e
-
 -- An operation before a block that is read.
 onto : (s : List ℕ) (at m n n′ : ℕ) (c : Block → Block) (b : Block) → block s at ≡ before c (block s m) → block s m ≡ read b n → n ≡ n′ → block s at ≡ read (c b) n′
 onto s at m n n′ c b e r q = e ∙ ap (before c) r ∙ ap (read (c b)) q
@@ -58,51 +53,50 @@ module _ (s : List ℕ) (at : ℕ) where
       let q : at + 2 + 2 ≡ at + 4 = omega arith in
       let r : at + 2 + 3 ≡ at + 5 = omega arith in
       let v : valueAt s (at + 2) ≡ i = rw (p, q, r, b 2, b 3, b 4, b 5) (value-forth i f) in
-      operation-1 s at (omega arith) (first-here s at (1 ∷ x ∷ (valueBytes i ++ rest)) h) ∙ constant-in s at (omega arith)
+      op-constant s at (first-here s at (1 ∷ x ∷ (valueBytes i ++ rest)) h) (omega arith)
       ∙ ap (λ (y : ℕ). Constant y (valueAt s (at + 2)) (at + 6)) (b 1) ∙ ap (λ (z : ℤ). Constant x z (at + 6)) v
 
   copy-here : (x y : ℕ) (rest : List ℕ) → drop at s ≡ 2 ∷ x ∷ y ∷ rest → operationAt s at ≡ Copy x y (at + 3)
   copy-here x y rest h =
       let b = byte-here s at (2 ∷ x ∷ y ∷ rest) h in
       let l = length-here s at (2 ∷ x ∷ y ∷ rest) h in
-      operation-2 s at (omega arith) (first-here s at (2 ∷ x ∷ y ∷ rest) h) ∙ copy-in s at (omega arith) ∙ rw (b 1, b 2)
+      op-copy s at (first-here s at (2 ∷ x ∷ y ∷ rest) h) (omega arith) ∙ rw (b 1, b 2)
 
   difference-here : (x y z : ℕ) (rest : List ℕ) → drop at s ≡ 3 ∷ x ∷ y ∷ z ∷ rest → operationAt s at ≡ Difference x y z (at + 4)
   difference-here x y z rest h =
       let b = byte-here s at (3 ∷ x ∷ y ∷ z ∷ rest) h in
       let l = length-here s at (3 ∷ x ∷ y ∷ z ∷ rest) h in
-      operation-3 s at (omega arith) (first-here s at (3 ∷ x ∷ y ∷ z ∷ rest) h) ∙ difference-in s at (omega arith) ∙ rw (b 1, b 2, b 3)
+      op-difference s at (first-here s at (3 ∷ x ∷ y ∷ z ∷ rest) h) (omega arith) ∙ rw (b 1, b 2, b 3)
 
   call-here : (x g n : ℕ) (rest : List ℕ) → drop at s ≡ 4 ∷ x ∷ g ∷ n ∷ rest → n ≤ length rest → operationAt s at ≡ Call x g n (at + 4 + n)
   call-here x g n rest h k =
       let b = byte-here s at (4 ∷ x ∷ g ∷ n ∷ rest) h in
       let l = length-here s at (4 ∷ x ∷ g ∷ n ∷ rest) h in
       let c : getD s (at + 3) 0 ≡ n = b 3 in
-      operation-4 s at (omega arith) (first-here s at (4 ∷ x ∷ g ∷ n ∷ rest) h) ∙ call-in s at (omega arith) ∙ rw (b 1, b 2, b 3)
+      op-call s at (first-here s at (4 ∷ x ∷ g ∷ n ∷ rest) h) (omega arith) ∙ rw (b 1, b 2, b 3)
 
   goto-here : (l : ℕ) (rest : List ℕ) → drop at s ≡ 5 ∷ l ∷ rest → operationAt s at ≡ Goto l (at + 2)
   goto-here l rest h =
       let b = byte-here s at (5 ∷ l ∷ rest) h in
       let k = length-here s at (5 ∷ l ∷ rest) h in
-      operation-ends s at 5 (omega arith) (first-here s at (5 ∷ l ∷ rest) h) (omega arith) ∙ end-5 s at 5 refl ∙ goto-in s at (omega arith) ∙ rw (b 1)
+      op-goto s at (first-here s at (5 ∷ l ∷ rest) h) (omega arith) ∙ rw (b 1)
 
   return-here : (x : ℕ) (rest : List ℕ) → drop at s ≡ 6 ∷ x ∷ rest → operationAt s at ≡ Return x (at + 2)
   return-here x rest h =
       let b = byte-here s at (6 ∷ x ∷ rest) h in
       let k = length-here s at (6 ∷ x ∷ rest) h in
-      operation-ends s at 6 (omega arith) (first-here s at (6 ∷ x ∷ rest) h) (omega arith) ∙ end-6 s at 6 refl ∙ return-in s at (omega arith) ∙ rw (b 1)
+      op-return s at (first-here s at (6 ∷ x ∷ rest) h) (omega arith) ∙ rw (b 1)
 
   branch-here : (y z l m : ℕ) (rest : List ℕ) → drop at s ≡ 7 ∷ y ∷ z ∷ l ∷ m ∷ rest → operationAt s at ≡ Branch y z l m (at + 5)
   branch-here y z l m rest h =
       let b = byte-here s at (7 ∷ y ∷ z ∷ l ∷ m ∷ rest) h in
       let k = length-here s at (7 ∷ y ∷ z ∷ l ∷ m ∷ rest) h in
-      operation-ends s at 7 (omega arith) (first-here s at (7 ∷ y ∷ z ∷ l ∷ m ∷ rest) h) (omega arith) ∙ end-7 s at 7 refl
-      ∙ branch-in s at (omega arith) ∙ rw (b 1, b 2, b 3, b 4)
+      op-branch s at (first-here s at (7 ∷ y ∷ z ∷ l ∷ m ∷ rest) h) (omega arith) ∙ rw (b 1, b 2, b 3, b 4)
 
   raise-here : (rest : List ℕ) → drop at s ≡ 8 ∷ rest → operationAt s at ≡ Raise (at + 1)
   raise-here rest h =
       let k = length-here s at (8 ∷ rest) h in
-      operation-ends s at 8 (omega arith) (first-here s at (8 ∷ rest) h) (omega arith) ∙ end-8 s at 8 refl
+      op-raise s at (first-here s at (8 ∷ rest) h) (omega arith)
 
 pub reads-block : (b : Block) → ValuesFit b → (s : List ℕ) (at : ℕ) (rest : List ℕ) → drop at s ≡ blockBytes b ++ rest → block s at ≡ read b (at + length (blockBytes b))
 reads-block (constant x i b) f s at rest h =

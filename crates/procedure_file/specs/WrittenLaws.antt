@@ -1,26 +1,22 @@
 -- The file that was read is the writing of its program.
-use Prim.Native.Nat.{ℕ, zero, suc, _+_, _*_, _/_, _%_, _^_, _≤_, _<_}
-use mathlib.Core.Path.{_≡_, refl, sym, ap, _∙_}
+use Prim.Native.Nat.{ℕ, _+_, _*_, _≤_, _<_}
+use mathlib.Core.Path.{_≡_, sym, ap, _∙_}
 use mathlib.Core.List.{List, [], _∷_, _++_, append-nil}
 use native.Mathlib.Omega.{arith}
-use lib.IntN.{ℤ}
 use lib.ListN.{length, getD, take, drop, take-append-drop, length-drop, drop-of-length-le}
 use lib.Seq.{length-take-le, drop-drop, drop-length}
 use mir.Syntax.{w32}
-use mir.Val.{toZ, ofZ, Fits, SFits}
+use mir.Val.{Fits, SFits}
 use mir.Facts.{ofZ-toZ, sfits-toZ}
-use Rattle.parsing.specs.Parser.{Parsed, read, refuse, andThen, many, joined}
+use Rattle.parsing.specs.Parser.{read, andThen, many, joined}
 use Rattle.parsing.specs.Fields.{byte, marked, version, count, ended, valueOf, valueAt}
 use Rattle.parsing.specs.ParserLaws.{both, ReadMany, none, one, read-many, read-byte, read-count}
 use Rattle.parsing.specs.WroteLaws.{Wrote, wrote-join, wrote-cons, wrote-byte, span, wrote-span, wrote-many, wrote-marked, wrote-version, read-ended}
-use Rattle.semantics.specs.Program.{Block, constant, copy, difference, call, goto, return, branch, raise, Labelled, Function, Program}
+use Rattle.semantics.specs.Program.{Block, Labelled, Function, Program}
 use Rattle.semantics.specs.WellFormed.{All}
 use Rattle.procedure_layout.specs.Layout.{spf, argumentsAt, block, labelled, Heading, heading, function, program}
 use Rattle.procedure_names.specs.Writing.{valueBytes, blockBytes, labelledBytes, functionBytes, writing, ValuesFit, FunctionInRange, InRange}
 use Rattle.procedure_file.specs.Accepted.{Bytes}
-use Rattle.procedure_layout.specs.Rest.{restFrom, restAt}
-use Rattle.procedure_layout.specs.OperationLaws.{operation-1, operation-2, operation-3, operation-4, operation-end, constant-in, copy-in, difference-in, call-in, goto-in, return-in, branch-in, end-5, end-6, end-7, end-8}
-use Rattle.procedure_layout.specs.WalkLaws.{rest-law}
 use Rattle.procedure_layout.specs.LayoutLaws.{HeadingAt, read-heading}
 use Rattle.procedure_layout.specs.BlockLaws.{ReadBlock, readConstant, readCopy, readDifference, readCall, readGoto, readReturn, readBranch, readRaise, read-block}
 

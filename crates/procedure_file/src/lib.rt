@@ -1,4 +1,4 @@
 // Procedure files (`SPF`): the checker, the lookup of blocks, the tables for machines.
 pub mod check;
 pub mod lookup;
-pub mod tables;
+mod tables;

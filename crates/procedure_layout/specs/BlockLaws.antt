@@ -1,21 +1,17 @@
 -- A block that was read, operation by operation.
 use Prim.Native.Nat.{ℕ, zero, suc, _+_, _≤_, _<_}
-use mathlib.Core.Path.{_≡_, refl, sym, ap, _∙_}
-use mathlib.Core.List.{List, []}
+use mathlib.Core.Path.{_≡_, sym, ap, _∙_}
+use mathlib.Core.List.{List}
 use native.Mathlib.Omega.{arith}
 use lib.ListN.{length, getD}
+use Rattle.parsing.specs.ParserLaws.{impossible}
 use Rattle.parsing.specs.Parser.{Parsed, read, refuse}
 use Rattle.parsing.specs.Fields.{valueAt}
 use Rattle.semantics.specs.Program.{Block, constant, copy, difference, call, goto, return, branch, raise}
 use Rattle.procedure_layout.specs.declared.operation.Operation.{Operation}
-use Rattle.procedure_layout.specs.Operation.{operationAt}
 use Rattle.procedure_layout.specs.Layout.{blockFrom, before, argumentsAt, block}
-use Rattle.procedure_layout.specs.Rest.{restFrom, restAt}
 use Rattle.procedure_layout.specs.ViewLaws.{View, isConstant, isCopy, isDifference, isCall, isGoto, isReturn, isBranch, isRaise, isRefused, view}
-use Rattle.procedure_layout.specs.WalkLaws.{block-law, rest-law}
-
-abbrev impossible : {A : Type 0} → _≡_ {A = ℕ} 0 1 → A
-impossible o = absurd (omega arith)
+use Rattle.procedure_layout.specs.WalkLaws.{block-law}
 
 pub data ReadBlock (s : List ℕ) : ℕ → Block → ℕ → Type 0 where
   readConstant : {at next : ℕ} {b : Block} → getD s at 0 ≡ 1 → at + 6 ≤ length s → ReadBlock s (at + 6) b next

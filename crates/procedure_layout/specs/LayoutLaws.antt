@@ -1,18 +1,17 @@
 -- Laws of the layout, as the functions that walk a file meet them.
-use Prim.Native.Nat.{ℕ, zero, suc, _+_, _≤_, _<_}
-use mathlib.Core.Path.{_≡_, refl, sym, ap, _∙_}
-use mathlib.Core.Bool.{true, false, cond}
-use mathlib.Core.List.{List, [], _∷_}
+use Prim.Native.Nat.{ℕ, _+_, _≤_, _<_}
+use mathlib.Core.Path.{_≡_, refl, ap, _∙_}
+use mathlib.Core.List.{List}
 use native.Mathlib.Omega.{arith}
 use lib.ListN.{length, getD}
 use Rattle.parsing.specs.declared.Refusal.{Refusal}
 use Rattle.parsing.specs.declared.Scan.the-variants.{Past, Stopped}
 use Rattle.parsing.specs.declared.Count.the-variants.{Is, Outside}
-use Rattle.parsing.specs.Parser.{Parsed, read, refuse, Parser, give, andThen, many, pastOf}
+use Rattle.parsing.specs.Parser.{Parsed, read, refuse, andThen, many, pastOf}
 use Rattle.parsing.specs.Fields.{cut, byte, marked, version, count, counted, ended}
-use Rattle.parsing.specs.ParserLaws.{Read, past-read, past-refuse, stop, byte-in, byte-cut, read-count, count-is, count-outside, both}
+use Rattle.parsing.specs.ParserLaws.{impossible, past-read, past-refuse, byte-in, byte-cut, read-count, count-is, count-outside, both}
 use Rattle.parsing.specs.WroteLaws.{wrote-marked, wrote-version}
-use Rattle.semantics.specs.Program.{Block, Labelled, Function, Program}
+use Rattle.semantics.specs.Program.{Block, Labelled, Function}
 use Rattle.procedure_layout.specs.declared.operation.Operation.{Operation}
 use Rattle.procedure_layout.specs.declared.layout.After.the-variants.{Onward, Ended, Halted}
 use Rattle.procedure_layout.specs.Operation.{operationAt}
@@ -20,9 +19,6 @@ use Rattle.procedure_layout.specs.Layout.{spf, blockFrom, before, block,
 use Rattle.procedure_layout.specs.After.{afterOf, blocksOf, endOf}
 use Rattle.procedure_layout.specs.ViewLaws.{View, isConstant, isCopy, isDifference, isCall, isGoto, isReturn, isBranch, isRaise, isRefused, view}
 use Rattle.procedure_layout.specs.WalkLaws.{block-law}
-
-abbrev impossible : {A : Type 0} → _≡_ {A = ℕ} 0 1 → A
-impossible o = absurd (omega arith)
 
 past-before : (o : Block → Block) (x : Parsed Block) → pastOf (before o x) ≡ pastOf x
 past-before o (read b next) = refl

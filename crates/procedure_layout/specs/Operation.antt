@@ -1,10 +1,9 @@
 -- The operation at an offset of a file (document 01, 'The procedure file'): "The operation byte decides among eight forms".
 use Prim.Native.Nat.{ℕ, _+_}
-use mathlib.Core.Bool.{Bool, cond}
+use mathlib.Core.Bool.{cond}
 use mathlib.Core.List.{List}
 use lib.Dec.{leb, eqb}
 use lib.ListN.{length, getD}
-use Rattle.parsing.specs.declared.Refusal.{Refusal}
 use Rattle.parsing.specs.Parser.{refusal}
 use Rattle.parsing.specs.Fields.{cut, valueAt}
 use Rattle.procedure_layout.specs.declared.operation.Operation.{Operation}

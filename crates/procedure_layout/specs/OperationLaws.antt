@@ -1,15 +1,13 @@
 -- Laws of the operation at an offset, as the functions that read it meet them.
 use Prim.Native.Nat.{ℕ, _+_, _≤_, _<_}
-use mathlib.Core.Path.{_≡_, refl}
+use mathlib.Core.Path.{_≡_, refl, ap, _∙_}
 use mathlib.Core.Logic.{_≢_}
-use mathlib.Core.Bool.{cond}
 use mathlib.Core.List.{List}
 use native.Mathlib.Omega.{arith}
 use borrow.Author.Tests.{le-leb, lt-leb, ne-eqb}
 use lib.ListN.{length, getD}
 use Rattle.parsing.specs.Parser.{refusal}
 use Rattle.parsing.specs.Fields.{cut, valueAt}
-use Rattle.procedure_layout.specs.declared.operation.Operation.{Operation}
 use Rattle.procedure_layout.specs.declared.operation.Operation.the-variants.{Constant, Copy, Difference, Call, Goto, Return, Branch, Raise, Refused}
 use Rattle.procedure_layout.specs.Operation.{whole, constantAt, copyAt, differenceAt, callAt, gotoAt, returnAt, branchAt, endAt, operationAt}
 
@@ -129,3 +127,37 @@ module _ (s : List ℕ) (at : ℕ) (inside : at < length s) where
 
     pub operation-unknown : getD s at 0 ≢ 5 → getD s at 0 ≢ 6 → getD s at 0 ≢ 7 → getD s at 0 ≢ 8 → operationAt s at ≡ Refused (refusal 6 at)
     operation-unknown e f g h = rw operation-end (end-unknown s at (getD s at 0) e f g h)
+
+-- An operation that ends a block, at an offset.
+operation-ends : (s : List ℕ) (at k : ℕ) → at < length s → getD s at 0 ≡ k → 5 ≤ k → operationAt s at ≡ endAt s at k
+operation-ends s at k i e h =
+    operation-end s at i (λ w. omega arith) (λ w. omega arith) (λ w. omega arith) (λ w. omega arith) ∙ ap (endAt s at) e
+
+-- The operation at an offset, by its number.
+module _ (s : List ℕ) (at : ℕ) where
+  pub op-constant : getD s at 0 ≡ 1 → at + 6 ≤ length s → operationAt s at ≡ Constant (getD s (at + 1) 0) (valueAt s (at + 2)) (at + 6)
+  op-constant e h = operation-1 s at (omega arith) e ∙ constant-in s at h
+
+  pub op-copy : getD s at 0 ≡ 2 → at + 3 ≤ length s → operationAt s at ≡ Copy (getD s (at + 1) 0) (getD s (at + 2) 0) (at + 3)
+  op-copy e h = operation-2 s at (omega arith) e ∙ copy-in s at h
+
+  pub op-difference : getD s at 0 ≡ 3 → at + 4 ≤ length s
+      → operationAt s at ≡ Difference (getD s (at + 1) 0) (getD s (at + 2) 0) (getD s (at + 3) 0) (at + 4)
+  op-difference e h = operation-3 s at (omega arith) e ∙ difference-in s at h
+
+  pub op-call : getD s at 0 ≡ 4 → at + 4 + getD s (at + 3) 0 ≤ length s
+      → operationAt s at ≡ Call (getD s (at + 1) 0) (getD s (at + 2) 0) (getD s (at + 3) 0) (at + 4 + getD s (at + 3) 0)
+  op-call e h = operation-4 s at (omega arith) e ∙ call-in s at h
+
+  pub op-goto : getD s at 0 ≡ 5 → at + 2 ≤ length s → operationAt s at ≡ Goto (getD s (at + 1) 0) (at + 2)
+  op-goto e h = operation-ends s at 5 (omega arith) e (omega arith) ∙ end-5 s at 5 refl ∙ goto-in s at h
+
+  pub op-return : getD s at 0 ≡ 6 → at + 2 ≤ length s → operationAt s at ≡ Return (getD s (at + 1) 0) (at + 2)
+  op-return e h = operation-ends s at 6 (omega arith) e (omega arith) ∙ end-6 s at 6 refl ∙ return-in s at h
+
+  pub op-branch : getD s at 0 ≡ 7 → at + 5 ≤ length s
+      → operationAt s at ≡ Branch (getD s (at + 1) 0) (getD s (at + 2) 0) (getD s (at + 3) 0) (getD s (at + 4) 0) (at + 5)
+  op-branch e h = operation-ends s at 7 (omega arith) e (omega arith) ∙ end-7 s at 7 refl ∙ branch-in s at h
+
+  pub op-raise : getD s at 0 ≡ 8 → at + 1 ≤ length s → operationAt s at ≡ Raise (at + 1)
+  op-raise e h = operation-ends s at 8 (omega arith) e (omega arith) ∙ end-8 s at 8 refl

@@ -77,7 +77,7 @@ pub fn block_end(file: &[u8], start: usize) -> Scan
 }
 
 // The end of a labelled block: its handler byte, then its operations.
-pub fn labelled_end(file: &[u8], at: usize) -> Scan
+fn labelled_end(file: &[u8], at: usize) -> Scan
     ensures { λ r. ⌜ r ≡ pastOf (labelled (now (file .entry)) at) ⌝ }
 {
     if file.len() <= at {
@@ -110,7 +110,7 @@ fn labels_end(file: &[u8], start: usize, n: usize) -> Scan
 }
 
 // The labelled block count of the function at an offset, once its counts are in range.
-pub fn heading_at(file: &[u8], at: usize) -> Count
+fn heading_at(file: &[u8], at: usize) -> Count
     ensures { λ r. ⌜ r ≡ blocksOf (heading (now (file .entry)) at) ⌝ }
 {
     match parsing::count_at(file, at, 0, 8) {
@@ -123,7 +123,7 @@ pub fn heading_at(file: &[u8], at: usize) -> Count
 }
 
 // The end of a function.
-pub fn function_end(file: &[u8], at: usize) -> Scan
+fn function_end(file: &[u8], at: usize) -> Scan
     ensures { λ r. ⌜ r ≡ pastOf (function (now (file .entry)) at) ⌝ }
 {
     match heading_at(file, at) {

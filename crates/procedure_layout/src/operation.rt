@@ -1,8 +1,8 @@
 // The operation at an offset.
 use parsing::Refusal;
 ghost use mathlib.Core.Path.{_≡_};
-ghost use lib.ListN.{length, getD};
-ghost use Prim.Native.Nat.{_+_, _<_, _≤_};
+ghost use lib.ListN.{length};
+ghost use Prim.Native.Nat.{_+_, _<_};
 ghost use Rattle.procedure_layout.specs.Operation.{operationAt, constantAt, copyAt, differenceAt, callAt, gotoAt, returnAt, branchAt, endAt};
 
 // An operation as it stands in the file, with the offset past it. Its names are not judged here.

@@ -1,19 +1,19 @@
 -- Laws of names, as the functions that judge them meet them.
-use Prim.Native.Nat.{ℕ, zero, suc, _+_, _-_, _≤_, _<_}
+use Prim.Native.Nat.{ℕ, suc, _+_, _-_, _≤_, _<_}
 use mathlib.Core.Path.{_≡_, refl, sym, ap, ap₂, _∙_, subst}
 use mathlib.Core.Bool.{Bool, true, false, cond}
 use mathlib.Core.List.{List, [], _∷_, _++_}
 use native.Mathlib.Omega.{arith}
-use native.Mathlib.Numerals.{add-one}
-use borrow.Author.Tests.{leb-true, le-leb, lt-leb, ltb-true, ltb-false, lt-ltb, le-ltb, eqb-true, eq-eqb, ne-eqb}
-use lib.Dec.{leb, ltb, eqb}
-use lib.ListN.{length, getD, take, drop, drop-of-length-le, length-take, length-drop}
+use borrow.Author.Tests.{le-leb, lt-leb, ltb-true, ltb-false, lt-ltb, le-ltb, eq-eqb, ne-eqb}
+use lib.Dec.{ltb}
+use lib.ListN.{length, getD, drop, drop-of-length-le, length-drop}
 use lib.Seq.{drop-cons, getD-take, getD-drop, length-take-le}
 use Rattle.parsing.specs.declared.Refusal.{Refusal}
 use Rattle.parsing.specs.declared.Checked.{Checked}
 use Rattle.parsing.specs.declared.Checked.the-variants.{Accepted}
-use Rattle.parsing.specs.Parser.{Verdict, accepted, refused, verdictOf}
-use Rattle.semantics.specs.Program.{Block, constant, copy, difference, call, goto, return, branch, raise}
+use Rattle.parsing.specs.ParserLaws.{impossible}
+use Rattle.parsing.specs.Parser.{Verdict, accepted, refused, orElse, verdictOf}
+use Rattle.semantics.specs.Program.{Block, call}
 use Rattle.procedure_layout.specs.declared.operation.Operation.{Operation}
 use Rattle.procedure_layout.specs.declared.operation.Operation.the-variants.{Constant, Copy, Difference, Call, Goto, Return, Branch, Raise, Refused}
 use Rattle.procedure_layout.specs.declared.layout.After.{After}
@@ -32,10 +32,7 @@ use Rattle.procedure_names.specs.OperationNames.{operationNames}
 use Rattle.procedure_layout.specs.OperationLaws.{operation-past}
 use Rattle.procedure_layout.specs.ViewLaws.{View, isConstant, isCopy, isDifference, isCall, isGoto, isReturn, isBranch, isRaise, isRefused, view}
 use Rattle.procedure_layout.specs.WalkLaws.{rest-law}
-use Rattle.procedure_names.specs.NamesLaws.{orElse, first-append}
-
-abbrev impossible : {A : Type 0} → _≡_ {A = ℕ} 0 1 → A
-impossible o = absurd (omega arith)
+use Rattle.procedure_names.specs.NamesLaws.{first-append}
 
 -- Numbers that were found, or were not.
 module _ (x n : ℕ) where

@@ -1,25 +1,18 @@
 -- Every name is right exactly where the program is well-formed (figure 3).
-use Prim.Native.Nat.{ℕ, zero, suc, _+_, _≤_, _<_}
-use mathlib.Core.Path.{_≡_, refl, sym, ap, _∙_}
+use Prim.Native.Nat.{ℕ, _+_, _<_}
+use mathlib.Core.Path.{_≡_, refl, sym, _∙_}
 use mathlib.Core.Bool.{Bool, true, false, cond}
-use mathlib.Core.List.{List, [], _∷_, _++_, map}
+use mathlib.Core.List.{List, [], _∷_, _++_}
 use native.Mathlib.Omega.{arith}
 use borrow.Author.Tests.{leb-true, le-leb, ltb-true, lt-ltb, eqb-true, eq-eqb}
-use lib.Dec.{leb, ltb, eqb}
+use lib.Dec.{leb}
 use lib.ListN.{length, getD, length-map, List·getD-map}
-use Rattle.parsing.specs.Parser.{Verdict, accepted, refused}
+use Rattle.parsing.specs.ParserLaws.{impossible}
+use Rattle.parsing.specs.Parser.{Verdict, accepted, refused, orElse}
 use Rattle.semantics.specs.Program.{Block, constant, copy, difference, call, goto, return, branch, raise, Labelled, Function, Program, variables, noFunction, functionOf}
-use Rattle.semantics.specs.WellFormed.{All, IsLabel, IsHandler, WellFormedBlock, WellFormedLabelled, WellFormedFunction, WellFormed}
+use Rattle.semantics.specs.WellFormed.{All, IsLabel, WellFormedBlock, WellFormedLabelled, WellFormedFunction, WellFormed}
 use Rattle.procedure_names.specs.Writing.{blockBytes, labelledBytes, functionBytes}
-use Rattle.procedure_names.specs.Names.{Name, variable, label, handler, function, arity, arguments, blockNames, labelledNames, functionNames, functionsNames, arities, namesOf, firstWrong}
-
-abbrev impossible : {A : Type 0} → _≡_ {A = ℕ} 0 1 → A
-impossible o = absurd (omega arith)
-
--- The first of two answers that refuses.
-abbrev pub orElse : Verdict → Verdict → Verdict
-orElse accepted v = v
-orElse (refused n p) v = refused n p
+use Rattle.procedure_names.specs.Names.{Name, variable, label, handler, function, arity, arguments, blockNames, labelledNames, functionsNames, arities, namesOf, firstWrong}
 
 pub first-append : (xs ys : List Name) → firstWrong (xs ++ ys) ≡ orElse (firstWrong xs) (firstWrong ys)
 first-append [] ys = refl

@@ -2,8 +2,6 @@
 use Prim.Native.Nat.{ℕ}
 use mathlib.Core.Bool.{cond}
 use lib.Dec.{ltb}
-use Rattle.procedure_names.specs.declared.names.FunctionNumber.{FunctionNumber}
-use Rattle.procedure_names.specs.declared.names.VariableNumber.{VariableNumber}
 use Rattle.procedure_names.specs.declared.names.FunctionFound.{FunctionFound}
 use Rattle.procedure_names.specs.declared.names.FunctionFound.the-variants.{Function, NoFunction}
 use Rattle.procedure_names.specs.declared.names.VariableFound.{VariableFound}

@@ -1,19 +1,16 @@
 -- Laws of the checker's answer, as the functions that give it meet them.
 use Prim.Native.Nat.{ℕ, _≤_, _<_}
-use mathlib.Core.Path.{_≡_, refl, sym, ap, _∙_}
-use mathlib.Core.Bool.{true, false, cond}
+use mathlib.Core.Path.{_≡_, ap, _∙_}
+use mathlib.Core.Bool.{true, false}
 use mathlib.Core.List.{List, []}
-use native.Mathlib.Omega.{arith}
 use borrow.Author.Tests.{le-leb, lt-leb}
-use lib.Dec.{leb}
 use lib.ListN.{length, take}
-use Rattle.semantics.specs.Code.{Code}
 use Rattle.parsing.specs.declared.Refusal.{Refusal}
 use Rattle.parsing.specs.declared.Scan.the-variants.{Past, Stopped}
-use Rattle.parsing.specs.Parser.{Parsed, read, refuse, pastOf, Verdict, accepted, refused}
+use Rattle.parsing.specs.Parser.{Parsed, pastOf, accepted, refused}
 use Rattle.parsing.specs.ParserLaws.{past-read, past-refuse}
 use Rattle.target_file.specs.Layout.{code}
-use Rattle.target_file.specs.Check.{verdict, arities, named, checkOf, codeRead, codeOf}
+use Rattle.target_file.specs.Check.{verdict, arities, checkOf, codeOf}
 
 module _ {A : Type 0} (x : Parsed A) where
   pub verdict-past : (n : ℕ) → pastOf x ≡ Past n → accepted ≡ verdict x

@@ -1,28 +1,27 @@
 -- The code that was read stands in the file, and code that stands in a file is read.
-use Prim.Native.Nat.{ℕ, zero, suc, _+_, _*_, _≤_, _<_}
+use Prim.Native.Nat.{ℕ, _+_, _≤_}
 use mathlib.Core.Path.{_≡_, refl, sym, ap, _∙_, subst}
-use mathlib.Core.Bool.{Bool, true, false, cond}
+use mathlib.Core.Bool.{Bool, true}
 use mathlib.Core.List.{List, [], _∷_}
 use native.Mathlib.Omega.{arith}
-use borrow.Author.Tests.{le-leb, le-ltb}
-use lib.Dec.{leb, ltb}
+use borrow.Author.Tests.{le-leb}
 use lib.ListN.{length, getD}
 use Rattle.semantics.specs.Code.{Expr, Target, Code}
 use Rattle.semantics.specs.WellFormed.{All}
-use Rattle.parsing.specs.Parser.{Parsed, read, refuse, Parser, andThen, many}
+use Rattle.parsing.specs.Parser.{Parsed, read, andThen, many}
 use Rattle.parsing.specs.Fields.{byte, marked, version, count, ended}
 use Rattle.parsing.specs.ParserLaws.{both, read-count, ReadMany, none, one, read-many, byte-in}
 use Rattle.parsing.specs.WroteLaws.{wrote-marked, wrote-version, read-ended}
 use Rattle.parsing.specs.ReadsLaws.{reads-ended}
 use Rattle.target_tags.specs.Tag.{pairAt}
 use Rattle.target_tags.specs.Names.{entryKinds}
-use Rattle.target_file.specs.Layout.{spc, pair, measured, sized, expression, function, functions, code}
+use Rattle.target_file.specs.Layout.{spc, sized, expression, function, functions, code}
 use Rattle.target_file.specs.Writing.{size, Nests}
 use Rattle.target_file.specs.Facts.{ExprAt}
-use Rattle.target_file.specs.EndLaws.{impossible, sized-read}
+use Rattle.target_file.specs.PartLaws.{sized-read}
 use Rattle.target_file.specs.FileLaws.{read-functions, functions-right}
 use Rattle.target_file.specs.RightLaws.{Right}
-use Rattle.target_file.specs.ReadLaws.{Found, expression-found}
+use Rattle.target_file.specs.ReadLaws.{expression-found}
 use Rattle.target_file.specs.StandsLaws.{stands-inside, stands-within, sized-holds, expression-stands}
 
 -- How many bytes functions take.

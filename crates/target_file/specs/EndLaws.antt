@@ -1,12 +1,12 @@
 -- Laws of the ends of parts, as the functions that read a file meet them.
-use Prim.Native.Nat.{ℕ, zero, suc, _+_, _*_, _-_, _≤_, _<_}
+use Prim.Native.Nat.{ℕ, _+_, _-_, _≤_, _<_}
 use mathlib.Core.Path.{_≡_, refl, sym, ap, _∙_}
 use mathlib.Core.Bool.{Bool, true, false, cond}
 use mathlib.Core.List.{List}
 use mathlib.Core.Option.{Option, none, some}
 use native.Mathlib.Omega.{arith}
-use borrow.Author.Tests.{le-leb, lt-leb, lt-ltb, le-ltb, eq-eqb, ne-eqb, eqb-true, eqb-false, leb-true, leb-false, ltb-true}
-use lib.Dec.{leb, ltb, eqb}
+use borrow.Author.Tests.{le-leb, lt-leb, lt-ltb, le-ltb, eq-eqb, ne-eqb, eqb-true}
+use lib.Dec.{eqb}
 use lib.ListN.{length, getD}
 use Rattle.semantics.specs.Code.{Expr, letConstant, letSlot, letDifference, ifAtMost, letContinuation, letBoth}
 use Rattle.parsing.specs.declared.Refusal.{Refusal}
@@ -15,123 +15,21 @@ use Rattle.parsing.specs.declared.Scan.the-variants.{Past, Stopped}
 use Rattle.parsing.specs.declared.Checked.{Checked}
 use Rattle.parsing.specs.declared.Checked.the-variants.{Accepted}
 use Rattle.parsing.specs.declared.Checked.the-variants as checked
-use Rattle.parsing.specs.Parser.{refusal, Parsed, read, refuse, Parser, andThen, pastOf}
+use Rattle.parsing.specs.Parser.{refusal, Parsed, read, refuse, andThen, pastOf}
 use Rattle.parsing.specs.Fields.{cut}
-use Rattle.parsing.specs.ParserLaws.{Both, both, past-read, past-refuse}
+use Rattle.parsing.specs.ParserLaws.{Both, past-read}
 use Rattle.target_tags.specs.declared.tag.Tag.{Tag}
 use Rattle.target_tags.specs.declared.tag.Tag.the-variants.{Constant, Copy, Difference, Jump, Resume, Handle, Branch, Continuation, Refused}
 use Rattle.target_tags.specs.declared.tag.Tag.the-variants as tags
 use Rattle.target_tags.specs.Tag.{pairAt, tagAt}
-use Rattle.target_tags.specs.Names.{judged, bound, tailKinds}
-use Rattle.target_tags.specs.ViewLaws.{View, isConstant, isCopy, isDifference, isJump, isResume, isHandle, isBranch, isContinuation, isBoth, isRefused, view, seen}
+use Rattle.target_tags.specs.Names.{judged, bound}
+use Rattle.target_tags.specs.ViewLaws.{View, isConstant, isCopy, isDifference, isJump, isResume, isHandle, isBranch, isContinuation, isBoth, isRefused, seen}
 use Rattle.target_file.specs.declared.layout.After.{After}
 use Rattle.target_file.specs.declared.layout.After.the-variants.{Onward, Ended, Halted}
-use Rattle.target_file.specs.Layout.{pair, measured, sized, Reading, nested, before, from, after, node, expressionN, expression}
-use Rattle.target_file.specs.Ends.{measuredEnd, onwardOf, thenOnward, afterOf, inner, partEnd, handlerEnd, bothEnd, partsEnd, nodeEnd, bodyEnd}
+use Rattle.target_file.specs.Layout.{pair, measured, sized, nested, before, from, after, node, expression}
+use Rattle.target_file.specs.Ends.{measuredEnd, onwardOf, thenOnward, afterOf, inner, partEnd, handlerEnd, bothEnd, partsEnd, nodeEnd}
 use Rattle.target_file.specs.LayoutLaws.{expression-law}
-
-pub impossible : {A : Type 0} → _≡_ {A = ℕ} 0 1 → A
-impossible o = absurd (omega arith)
-
--- ── What was read ───────────────────────────────────────────────────────────────────────────────
-
-pub record Before (t : Expr → Expr) (x : Parsed Expr) (e : Expr) (next : ℕ) : Type 0 where
-  pub rest : Expr
-  pub reads : x ≡ read rest next
-  pub is : t rest ≡ e
-
-pub before-read : (t : Expr → Expr) (x : Parsed Expr) {e : Expr} {next : ℕ} → before t x ≡ read e next → Before t x e next
-before-read t (read r m) w = record { rest = r; reads = ap (read r) (cc); is = cc }
-before-read t (refuse r) w = impossible (cc)
-
-pub record After-read {A : Type 0} (c : Checked) (x : Parsed A) (a : A) (next : ℕ) : Type 0 where
-  pub right : c ≡ Accepted
-  pub reads : x ≡ read a next
-
-pub after-read : {A : Type 0} (c : Checked) (x : Parsed A) {a : A} {next : ℕ} → after c x ≡ read a next → After-read c x a next
-after-read Accepted x w = record { right = refl; reads = w }
-after-read (checked.Refused r) x w = impossible (cc)
-
--- A part that fills its length.
-pub record Measured (at n : ℕ) (x : Parsed Expr) (e : Expr) (next : ℕ) : Type 0 where
-  pub reads : x ≡ read e next
-  pub fills : next ≡ at + n
-
-pub measured-read : (place at n : ℕ) (x : Parsed Expr) {e : Expr} {next : ℕ} → measured place at n x ≡ read e next → Measured at n x e next
-measured-read place at n (read e′ m) {e} {next} w = go (eqb m (at + n)) refl w
-  where
-    go : (t : Bool) → eqb m (at + n) ≡ t → cond t (read e′ (at + n)) (refuse (refusal 12 place)) ≡ read e next → Measured at n (read e′ m) e next
-    go true q v =
-        let r : m ≡ at + n = eqb-true m (at + n) q in
-        let f : at + n ≡ next = cc in
-        let g : e′ ≡ e = cc in
-        record { reads = rw (g, r, f); fills = sym f }
-    go false q v = impossible (cc)
-measured-read place at n (refuse r) w = impossible (cc)
-
--- A part one level deeper.
-pub record Nested (s : List ℕ) (k : Reading) (level : ℕ) (ks : List ℕ) (at : ℕ) (e : Expr) (next : ℕ) : Type 0 where
-  pub inside : at < length s
-  pub shallow : level < 16
-  pub reads : k (level + 1) ks at ≡ read e next
-
-pub nested-read : (s : List ℕ) (k : Reading) (level : ℕ) (ks : List ℕ) (at : ℕ) {e : Expr} {next : ℕ} → nested s k level ks at ≡ read e next → Nested s k level ks at e next
-nested-read s k level ks at {e} {next} w = go (leb (length s) at) (ltb level 16) refl refl w
-  where
-    go : (t u : Bool) → leb (length s) at ≡ t → ltb level 16 ≡ u
-        → cond t (refuse (cut s)) (cond u (k (level + 1) ks at) (refuse (refusal 5 at))) ≡ read e next → Nested s k level ks at e next
-    go true u p q v = impossible (cc)
-    go false true p q v = record { inside = leb-false (length s) at p; shallow = ltb-true level 16 q; reads = v }
-    go false false p q v = impossible (cc)
-
--- A length and its part.
-pub record Sized (p : Parser Expr) (s : List ℕ) (at : ℕ) (e : Expr) (next : ℕ) : Type 0 where
-  pub inside : at + 2 ≤ length s
-  pub reads : p s (at + 2) ≡ read e next
-  pub fills : next ≡ at + 2 + pairAt s at
-
-pub sized-read : (p : Parser Expr) (s : List ℕ) (at : ℕ) {e : Expr} {next : ℕ} → sized p s at ≡ read e next → Sized p s at e next
-unfolding pair
-sized-read p s at {e} {next} w = go (leb (at + 2) (length s)) refl w
-  where
-    go : (t : Bool) → leb (at + 2) (length s) ≡ t
-        → andThen (cond t (read (pairAt s at) (at + 2)) (refuse (cut s))) (λ n m. measured at m n (p s m)) ≡ read e next → Sized p s at e next
-    go true q v =
-        let m = measured-read at (at + 2) (pairAt s at) (p s (at + 2)) v in
-        record { inside = leb-true (at + 2) (length s) q; reads = m .reads; fills = m .fills }
-    go false q v = impossible (cc)
-
--- An expression that was read ends inside the file.
-module _ (names : Bool) (ps s : List ℕ) where
-  from-inside : (k : Reading) → ((level : ℕ) (ks : List ℕ) (at : ℕ) (e : Expr) (next : ℕ) → k level ks at ≡ read e next → next ≤ length s)
-      → (level : ℕ) (ks : List ℕ) (at : ℕ) {e : Expr} {next : ℕ} {t : Tag} → View s at t → from s k level ks at t ≡ read e next → next ≤ length s
-  from-inside k ih level ks at (isConstant e h) w = ih level _ (at + 6) _ _ (before-read _ (k level _ (at + 6)) w .reads)
-  from-inside k ih level ks at (isCopy e h) w = ih level _ (at + 3) _ _ (before-read _ (k level _ (at + 3)) w .reads)
-  from-inside k ih level ks at (isDifference e h) w = ih level _ (at + 4) _ _ (before-read _ (k level _ (at + 4)) w .reads)
-  from-inside k ih level ks at {next = next} (isJump e h) w = let q : at + 6 + getD s (at + 5) 0 ≡ next = cc in omega arith
-  from-inside k ih level ks at {next = next} (isResume e h) w = let q : at + 3 ≡ next = cc in omega arith
-  from-inside k ih level ks at {next = next} (isHandle e h) w = let q : at + 2 ≡ next = cc in omega arith
-  from-inside k ih level ks at (isBranch e h) w =
-      let b = both (measured (at + 3) (at + 5) (pairAt s (at + 3)) (nested s k level ks (at + 5))) _ w in
-      ih level ks (b .middle) _ _ (before-read _ (k level ks (b .middle)) (b .follows) .reads)
-  from-inside k ih level ks at (isContinuation e h) w =
-      let b = both (measured (at + 3) (at + 5) (pairAt s (at + 3)) (nested s k level (bound ks (getD s (at + 1) 0) 2) (at + 5))) _ w in
-      ih level _ (b .middle) _ _ (before-read _ (k level _ (b .middle)) (b .follows) .reads)
-  from-inside k ih level ks at (isBoth e h) w =
-      let b = both (measured (at + 4) (at + 6) (pairAt s (at + 4)) (nested s k level (bound (bound ks (getD s (at + 1) 0) 2) (getD s (at + 3) 0) 3) (at + 6))) _ w in
-      let d = both (sized (λ s′ m. nested s k level ks m) s (b .middle)) _ (b .follows) in
-      ih level _ (d .middle) _ _ (before-read _ (k level _ (d .middle)) (d .follows) .reads)
-  from-inside k ih level ks at (isRefused r) w = impossible (cc)
-
-  inside-fuel : (n level : ℕ) (ks : List ℕ) (at : ℕ) {e : Expr} {next : ℕ} → expressionN names ps s n level ks at ≡ read e next → next ≤ length s
-  inside-fuel zero level ks at w = impossible (cc)
-  inside-fuel (suc n) level ks at w =
-      from-inside (expressionN names ps s n) (λ l k m e i. inside-fuel n l k m) level ks at (view s at)
-      (after-read (judged names ps ks s at (tagAt s at)) (from s (expressionN names ps s n) level ks at (tagAt s at)) w .reads)
-
-  pub expression-inside : (level : ℕ) (ks : List ℕ) (at : ℕ) {e : Expr} {next : ℕ} → expression names ps level ks s at ≡ read e next → next ≤ length s
-  unfolding expression
-  expression-inside level ks at w = inside-fuel (length s) level ks at w
+use Rattle.target_file.specs.PartLaws.{impossible, measured-read, nested-read, sized-read, expression-inside}
 
 -- ── The ends of parts ───────────────────────────────────────────────────────────────────────────
 
@@ -210,13 +108,13 @@ module _ (names : Bool) (ps s : List ℕ) (level : ℕ) (ks : List ℕ) where
         (omega (arith, z .fills), expression-inside names ps s (level + 1) ks (at + 2) (d .reads))
 
   -- The nested parts of tag 9.
-  module _ (at x t n next : ℕ) (ks′ : List ℕ) (rest : ks′ ≡ bound (bound ks x 2) t 3) where
-    pub both-on : (m : ℕ) {y : Scan} {a : After} → partEnd names ps s level ks′ (at + 4) next n ≡ Past m → a ≡ onwardOf y
-        → y ≡ handlerEnd names ps s level ks m → a ≡ bothEnd names ps s level ks at x t n next
+  module _ (at x p t n next : ℕ) (ks′ : List ℕ) (rest : ks′ ≡ bound (bound ks x 2) t 3) where
+    pub both-on : (m : ℕ) {y : Scan} {a : After} → partEnd names ps s level ks′ (at + 4) next n ≡ Past m → a ≡ onwardOf p y
+        → y ≡ handlerEnd names ps s level ks m → a ≡ bothEnd names ps s level ks at x p t n next
     unfolding bothEnd
     both-on m e f g = rw (← rest, e, f, g)
 
-    pub both-stop : (r : Refusal) → partEnd names ps s level ks′ (at + 4) next n ≡ Stopped r → Halted r ≡ bothEnd names ps s level ks at x t n next
+    pub both-stop : (r : Refusal) → partEnd names ps s level ks′ (at + 4) next n ≡ Stopped r → Halted r ≡ bothEnd names ps s level ks at x p t n next
     unfolding bothEnd
     both-stop r e = rw (← rest, e)
 
@@ -232,8 +130,8 @@ module _ (names : Bool) (ps s : List ℕ) (level : ℕ) (ks : List ℕ) where
 
 -- ── What follows a node ─────────────────────────────────────────────────────────────────────────
 
-abbrev finish : After → (ℕ → Scan) → Scan
-finish (Onward m) k = k m
+abbrev finish : After → (ℕ → ℕ → Scan) → Scan
+finish (Onward m x) k = k m x
 finish (Ended m) k = Past m
 finish (Halted r) k = Stopped r
 
@@ -241,26 +139,27 @@ past-before : (t : Expr → Expr) (x : Parsed Expr) → pastOf (before t x) ≡ 
 past-before t (read e m) = refl
 past-before t (refuse r) = refl
 
-past-then : (x : Parsed Expr) (K : Expr → ℕ → Parsed Expr) (k : ℕ → Scan) → ((e : Expr) (m : ℕ) → pastOf (K e m) ≡ k m)
-    → pastOf (andThen x K) ≡ finish (onwardOf (pastOf x)) k
-past-then (read e m) K k f = f e m
-past-then (refuse r) K k f = refl
+past-then : (p : ℕ) (x : Parsed Expr) (K : Expr → ℕ → Parsed Expr) (k : ℕ → ℕ → Scan) → ((e : Expr) (m : ℕ) → pastOf (K e m) ≡ k m p)
+    → pastOf (andThen x K) ≡ finish (onwardOf p (pastOf x)) k
+past-then p (read e m) K k f = f e m
+past-then p (refuse r) K k f = refl
 
-past-both : (x : Parsed Expr) (y : ℕ → Parsed Expr) (K : Expr → Expr → ℕ → Parsed Expr) (k : ℕ → Scan) → ((e h : Expr) (m : ℕ) → pastOf (K e h m) ≡ k m)
-    → pastOf (andThen x (λ e m. andThen (y m) (K e))) ≡ finish (thenOnward (pastOf x) (λ m. onwardOf (pastOf (y m)))) k
-past-both (read e m) y K k f = past-then (y m) (K e) k (f e)
-past-both (refuse r) y K k f = refl
+past-both : (p : ℕ) (x : Parsed Expr) (y : ℕ → Parsed Expr) (K : Expr → Expr → ℕ → Parsed Expr) (k : ℕ → ℕ → Scan)
+    → ((e h : Expr) (m : ℕ) → pastOf (K e h m) ≡ k m p)
+    → pastOf (andThen x (λ e m. andThen (y m) (K e))) ≡ finish (thenOnward (pastOf x) (λ m. onwardOf p (pastOf (y m)))) k
+past-both p (read e m) y K k f = past-then p (y m) (K e) k (f e)
+past-both p (refuse r) y K k f = refl
 
-past-after : {A : Type 0} (c : Checked) (x : Parsed A) (a : After) (k : ℕ → Scan) → pastOf x ≡ finish a k → pastOf (after c x) ≡ finish (afterOf c a) k
+past-after : {A : Type 0} (c : Checked) (x : Parsed A) (a : After) (k : ℕ → ℕ → Scan) → pastOf x ≡ finish a k → pastOf (after c x) ≡ finish (afterOf c a) k
 past-after Accepted x a k e = e
 past-after (checked.Refused r) x a k e = refl
 
 module _ (names : Bool) (ps s : List ℕ) (level : ℕ) (ks : List ℕ) (at : ℕ) where
-  abbrev next-at : Tag → ℕ → Scan
-  next-at t m = pastOf (expression names ps level (tailKinds ks t) s m)
+  abbrev next-at : ℕ → ℕ → Scan
+  next-at m x = pastOf (expression names ps level (bound ks x 1) s m)
 
-  from-past : (t : Tag) → pastOf (from s (inner names ps s) level ks at t) ≡ finish (partsEnd names ps s level ks at t) (next-at t)
-  unfolding partsEnd tailKinds partEnd bothEnd handlerEnd
+  from-past : (t : Tag) → pastOf (from s (inner names ps s) level ks at t) ≡ finish (partsEnd names ps s level ks at t) next-at
+  unfolding partsEnd partEnd bothEnd handlerEnd bound
   from-past (Constant x i next) = past-before (letConstant x i) (inner names ps s level (bound ks x 1) next)
   from-past (Copy x y next) = past-before (letSlot x y) (inner names ps s level (bound ks x 1) next)
   from-past (Difference x y z next) = past-before (letDifference x y z) (inner names ps s level (bound ks x 1) next)
@@ -268,36 +167,36 @@ module _ (names : Bool) (ps s : List ℕ) (level : ℕ) (ks : List ℕ) (at : �
   from-past (Resume k y next) = refl
   from-past (Handle h next) = refl
   from-past (Branch y z n next) =
-      past-then (measured (at + 3) next n (nested s (inner names ps s) level ks next)) (λ e m. before (ifAtMost y z e) (inner names ps s level ks m))
-      (λ m. pastOf (expression names ps level ks s m)) (λ e m. past-before (ifAtMost y z e) (inner names ps s level ks m))
+      past-then 36 (measured (at + 3) next n (nested s (inner names ps s) level ks next)) (λ e m. before (ifAtMost y z e) (inner names ps s level ks m)) next-at
+      (λ e m. past-before (ifAtMost y z e) (inner names ps s level ks m))
   from-past (Continuation x p n next) =
-      past-then (measured (at + 3) next n (nested s (inner names ps s) level (bound ks x 2) next)) (λ e m. before (letContinuation x p e) (inner names ps s level (bound ks p 1) m))
-      (λ m. pastOf (expression names ps level (bound ks p 1) s m)) (λ e m. past-before (letContinuation x p e) (inner names ps s level (bound ks p 1) m))
+      past-then p (measured (at + 3) next n (nested s (inner names ps s) level (bound ks x 2) next)) (λ e m. before (letContinuation x p e) (inner names ps s level (bound ks p 1) m)) next-at
+      (λ e m. past-before (letContinuation x p e) (inner names ps s level (bound ks p 1) m))
   from-past (tags.Both x p t n next) =
-      past-both (measured (at + 4) next n (nested s (inner names ps s) level (bound (bound ks x 2) t 3) next)) (λ m. sized (λ s′ m₁. nested s (inner names ps s) level ks m₁) s m)
-      (λ e h m. before (letBoth x p t e h) (inner names ps s level (bound ks p 1) m))
-      (λ m. pastOf (expression names ps level (bound ks p 1) s m)) (λ e h m. past-before (letBoth x p t e h) (inner names ps s level (bound ks p 1) m))
+      past-both p (measured (at + 4) next n (nested s (inner names ps s) level (bound (bound ks x 2) t 3) next)) (λ m. sized (λ s′ m₁. nested s (inner names ps s) level ks m₁) s m)
+      (λ e h m. before (letBoth x p t e h) (inner names ps s level (bound ks p 1) m)) next-at
+      (λ e h m. past-before (letBoth x p t e h) (inner names ps s level (bound ks p 1) m))
   from-past (Refused r) = refl
 
   module _ {t : Tag} {a : After} (is : t ≡ tagAt s at) (ends : a ≡ nodeEnd names ps s level ks at t) where
-    expression-past : pastOf (expression names ps level ks s at) ≡ finish a (next-at t)
+    expression-past : pastOf (expression names ps level ks s at) ≡ finish a next-at
     unfolding nodeEnd
     expression-past =
         ap pastOf (expression-law names ps s level ks at)
         ∙ ap (λ u. pastOf (after (judged names ps ks s at u) (from s (inner names ps s) level ks at u))) (sym is)
-        ∙ past-after (judged names ps ks s at t) (from s (inner names ps s) level ks at t) (partsEnd names ps s level ks at t) (next-at t) (from-past t)
-        ∙ ap (λ b. finish b (next-at t)) (sym ends)
+        ∙ past-after (judged names ps ks s at t) (from s (inner names ps s) level ks at t) (partsEnd names ps s level ks at t) next-at (from-past t)
+        ∙ ap (λ b. finish b next-at) (sym ends)
 
-    pub expression-onward : (next : ℕ) (ks′ : List ℕ) → a ≡ Onward next → ks′ ≡ tailKinds ks t
+    pub expression-onward : (next x : ℕ) (ks′ : List ℕ) → a ≡ Onward next x → ks′ ≡ bound ks x 1
         → pastOf (expression names ps level ks′ s next) ≡ pastOf (expression names ps level ks s at)
-    expression-onward next ks′ e f =
-        ap (λ l. pastOf (expression names ps level l s next)) f ∙ sym (expression-past ∙ ap (λ b. finish b (next-at t)) e)
+    expression-onward next x ks′ e f =
+        ap (λ l. pastOf (expression names ps level l s next)) f ∙ sym (expression-past ∙ ap (λ b. finish b next-at) e)
 
     pub expression-ended : (next : ℕ) → a ≡ Ended next → Past next ≡ pastOf (expression names ps level ks s at)
-    expression-ended next e = sym (expression-past ∙ ap (λ b. finish b (next-at t)) e)
+    expression-ended next e = sym (expression-past ∙ ap (λ b. finish b next-at) e)
 
     pub expression-halted : (r : Refusal) → a ≡ Halted r → Stopped r ≡ pastOf (expression names ps level ks s at)
-    expression-halted r e = sym (expression-past ∙ ap (λ b. finish b (next-at t)) e)
+    expression-halted r e = sym (expression-past ∙ ap (λ b. finish b next-at) e)
 
     -- What goes on behind a node goes on behind its own fields, inside the file.
     pub record Moves (next : ℕ) : Type 0 where
@@ -305,41 +204,41 @@ module _ (names : Bool) (ps s : List ℕ) (level : ℕ) (ks : List ℕ) (at : �
       pub forward : at < next
       pub inside : next ≤ length s
 
-    onward-part : (x : Scan) (next : ℕ) → onwardOf x ≡ Onward next → x ≡ Past next
-    onward-part (Past m) next e = ap Past (cc)
-    onward-part (Stopped r) next e = impossible (cc)
+    onward-part : (p : ℕ) (x : Scan) (next b : ℕ) → onwardOf p x ≡ Onward next b → x ≡ Past next
+    onward-part p (Past m) next b e = ap Past (cc)
+    onward-part p (Stopped r) next b e = impossible (cc)
 
-    parts-move : {u : Tag} → View s at u → (next : ℕ) → partsEnd names ps s level ks at u ≡ Onward next → Moves next
+    parts-move : {u : Tag} → View s at u → (next b : ℕ) → partsEnd names ps s level ks at u ≡ Onward next b → Moves next
     unfolding partsEnd bothEnd
-    parts-move (isConstant f h) next e = let q : at + 6 ≡ next = cc in record { here = omega arith; forward = omega arith; inside = omega arith }
-    parts-move (isCopy f h) next e = let q : at + 3 ≡ next = cc in record { here = omega arith; forward = omega arith; inside = omega arith }
-    parts-move (isDifference f h) next e = let q : at + 4 ≡ next = cc in record { here = omega arith; forward = omega arith; inside = omega arith }
-    parts-move (isJump f h) next e = impossible (cc)
-    parts-move (isResume f h) next e = impossible (cc)
-    parts-move (isHandle f h) next e = impossible (cc)
-    parts-move (isBranch f h) next e =
-        let w = part-past names ps s level ks (at + 3) (at + 5) (pairAt s (at + 3)) next (onward-part _ next e) in
+    parts-move (isConstant f h) next b e = let q : at + 6 ≡ next = cc in record { here = omega arith; forward = omega arith; inside = omega arith }
+    parts-move (isCopy f h) next b e = let q : at + 3 ≡ next = cc in record { here = omega arith; forward = omega arith; inside = omega arith }
+    parts-move (isDifference f h) next b e = let q : at + 4 ≡ next = cc in record { here = omega arith; forward = omega arith; inside = omega arith }
+    parts-move (isJump f h) next b e = impossible (cc)
+    parts-move (isResume f h) next b e = impossible (cc)
+    parts-move (isHandle f h) next b e = impossible (cc)
+    parts-move (isBranch f h) next b e =
+        let w = part-past names ps s level ks (at + 3) (at + 5) (pairAt s (at + 3)) next (onward-part _ _ next b e) in
         record { here = omega arith; forward = omega (arith, w .fills); inside = w .inside }
-    parts-move (isContinuation f h) next e =
-        let w = part-past names ps s level (bound ks (getD s (at + 1) 0) 2) (at + 3) (at + 5) (pairAt s (at + 3)) next (onward-part _ next e) in
+    parts-move (isContinuation f h) next b e =
+        let w = part-past names ps s level (bound ks (getD s (at + 1) 0) 2) (at + 3) (at + 5) (pairAt s (at + 3)) next (onward-part _ _ next b e) in
         record { here = omega arith; forward = omega (arith, w .fills); inside = w .inside }
-    parts-move (isBoth f h) next e = go (partEnd names ps s level (bound (bound ks (getD s (at + 1) 0) 2) (getD s (at + 3) 0) 3) (at + 4) (at + 6) (pairAt s (at + 4))) refl e
+    parts-move (isBoth f h) next b e = go (partEnd names ps s level (bound (bound ks (getD s (at + 1) 0) 2) (getD s (at + 3) 0) 3) (at + 4) (at + 6) (pairAt s (at + 4))) refl e
       where
         go : (x : Scan) → partEnd names ps s level (bound (bound ks (getD s (at + 1) 0) 2) (getD s (at + 3) 0) 3) (at + 4) (at + 6) (pairAt s (at + 4)) ≡ x
-            → thenOnward x (λ m. onwardOf (handlerEnd names ps s level ks m)) ≡ Onward next → Moves next
+            → thenOnward x (λ m. onwardOf (getD s (at + 2) 0) (handlerEnd names ps s level ks m)) ≡ Onward next b → Moves next
         go (Past m) w v =
             let p = part-past names ps s level (bound (bound ks (getD s (at + 1) 0) 2) (getD s (at + 3) 0) 3) (at + 4) (at + 6) (pairAt s (at + 4)) m w in
-            let q = handler-past names ps s level ks m next (onward-part _ next v) in
+            let q = handler-past names ps s level ks m next (onward-part _ _ next b v) in
             record { here = omega arith; forward = omega (arith, p .fills, q .0); inside = q .1 }
         go (Stopped r) w v = impossible (cc)
-    parts-move (isRefused r) next e = impossible (cc)
+    parts-move (isRefused r) next b e = impossible (cc)
 
-    pub onward-moves : (next : ℕ) → a ≡ Onward next → Moves next
+    pub onward-moves : (next b : ℕ) → a ≡ Onward next b → Moves next
     unfolding nodeEnd
-    onward-moves next e = go (judged names ps ks s at t) (sym ends ∙ e)
+    onward-moves next b e = go (judged names ps ks s at t) (sym ends ∙ e)
       where
-        go : (c : Checked) → afterOf c (partsEnd names ps s level ks at t) ≡ Onward next → Moves next
-        go Accepted w = parts-move (seen s at t is) next w
+        go : (c : Checked) → afterOf c (partsEnd names ps s level ks at t) ≡ Onward next b → Moves next
+        go Accepted w = parts-move (seen s at t is) next b w
         go (checked.Refused r) w = impossible (cc)
 
 -- ── The parts of a node, by its tag ─────────────────────────────────────────────────────────────
@@ -389,16 +288,16 @@ module _ (s : List ℕ) (at : ℕ) where
   both-fields {t} {x} {p} {h} {n} {next} is e = fields next (seen s at t is) (ap nextOf e)
 
 module _ (names : Bool) (ps s : List ℕ) (level : ℕ) (ks : List ℕ) (at : ℕ) {t : Tag} {a : After} where
-  pub branch-on : {y z n next : ℕ} {x : Scan} → t ≡ Branch y z n next → a ≡ onwardOf x → x ≡ partEnd names ps s level ks (at + 3) next n
+  pub branch-on : {y z n next : ℕ} {x : Scan} → t ≡ Branch y z n next → a ≡ onwardOf 36 x → x ≡ partEnd names ps s level ks (at + 3) next n
       → a ≡ partsEnd names ps s level ks at t
   unfolding partsEnd
   branch-on e f g = rw (e, f, g)
 
-  pub continuation-on : {x p n next : ℕ} {y : Scan} (ks′ : List ℕ) → t ≡ Continuation x p n next → a ≡ onwardOf y
+  pub continuation-on : {x p n next : ℕ} {y : Scan} (ks′ : List ℕ) → t ≡ Continuation x p n next → a ≡ onwardOf p y
       → y ≡ partEnd names ps s level ks′ (at + 3) next n → ks′ ≡ bound ks x 2 → a ≡ partsEnd names ps s level ks at t
   unfolding partsEnd
   continuation-on ks′ e f g h = rw (e, f, g, h)
 
-  pub tag-9-on : {x p h n next : ℕ} → t ≡ tags.Both x p h n next → a ≡ bothEnd names ps s level ks at x h n next → a ≡ partsEnd names ps s level ks at t
+  pub tag-9-on : {x p h n next : ℕ} → t ≡ tags.Both x p h n next → a ≡ bothEnd names ps s level ks at x p h n next → a ≡ partsEnd names ps s level ks at t
   unfolding partsEnd
   tag-9-on e f = rw (e, f)

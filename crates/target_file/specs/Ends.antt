@@ -2,10 +2,8 @@
 use Prim.Native.Nat.{ℕ, _+_}
 use mathlib.Core.Bool.{Bool, cond}
 use mathlib.Core.List.{List}
-use lib.Dec.{leb, ltb, eqb}
+use lib.Dec.{eqb}
 use lib.ListN.{length}
-use Rattle.semantics.specs.Code.{Expr}
-use Rattle.parsing.specs.declared.Refusal.{Refusal}
 use Rattle.parsing.specs.declared.Scan.{Scan}
 use Rattle.parsing.specs.declared.Scan.the-variants.{Past, Stopped}
 use Rattle.parsing.specs.declared.Count.{Count}
@@ -13,7 +11,7 @@ use Rattle.parsing.specs.declared.Count.the-variants.{Is, Outside}
 use Rattle.parsing.specs.declared.Checked.{Checked}
 use Rattle.parsing.specs.declared.Checked.the-variants.{Accepted}
 use Rattle.parsing.specs.declared.Checked.the-variants as checked
-use Rattle.parsing.specs.Parser.{refusal, Parsed, read, refuse, Parser, andThen, pastOf}
+use Rattle.parsing.specs.Parser.{refusal, Parsed, read, refuse, pastOf}
 use Rattle.target_tags.specs.declared.tag.Tag.{Tag}
 use Rattle.target_tags.specs.declared.tag.Tag.the-variants.{Constant, Copy, Difference, Jump, Resume, Handle, Branch, Continuation, Both, Refused}
 use Rattle.target_tags.specs.Names.{judged, bound}
@@ -25,9 +23,10 @@ unfoldable pub measuredEnd : ℕ → ℕ → ℕ → Scan → Scan
 measuredEnd place at n (Past next) = cond (eqb next (at + n)) (Past next) (Stopped (refusal 12 place))
 measuredEnd place at n (Stopped r) = Stopped r
 
-abbrev pub onwardOf : Scan → After
-onwardOf (Past next) = Onward next
-onwardOf (Stopped r) = Halted r
+-- What follows goes on behind a part, with a slot bound there to a whole number (36 for none).
+abbrev pub onwardOf : ℕ → Scan → After
+onwardOf x (Past next) = Onward next x
+onwardOf x (Stopped r) = Halted r
 
 abbrev pub thenOnward : Scan → (ℕ → After) → After
 thenOnward (Past next) k = k next
@@ -48,21 +47,21 @@ module _ (names : Bool) (ps s : List ℕ) where
   unfoldable pub handlerEnd : ℕ → List ℕ → ℕ → Scan
   handlerEnd level ks at = pastOf (sized (λ s′ m. nested s inner level ks m) s at)
 
-  unfoldable pub bothEnd : ℕ → List ℕ → ℕ → ℕ → ℕ → ℕ → ℕ → After
-  bothEnd level ks at x t n next =
-      thenOnward (partEnd level (bound (bound ks x 2) t 3) (at + 4) next n) (λ m. onwardOf (handlerEnd level ks m))
+  unfoldable pub bothEnd : ℕ → List ℕ → ℕ → ℕ → ℕ → ℕ → ℕ → ℕ → After
+  bothEnd level ks at x p t n next =
+      thenOnward (partEnd level (bound (bound ks x 2) t 3) (at + 4) next n) (λ m. onwardOf p (handlerEnd level ks m))
 
   -- The nested parts of a node, and what follows them.
   unfoldable pub partsEnd : ℕ → List ℕ → ℕ → Tag → After
-  partsEnd level ks at (Constant x i next) = Onward next
-  partsEnd level ks at (Copy x y next) = Onward next
-  partsEnd level ks at (Difference x y z next) = Onward next
+  partsEnd level ks at (Constant x i next) = Onward next x
+  partsEnd level ks at (Copy x y next) = Onward next x
+  partsEnd level ks at (Difference x y z next) = Onward next x
   partsEnd level ks at (Jump g k h n next) = Ended next
   partsEnd level ks at (Resume k y next) = Ended next
   partsEnd level ks at (Handle h next) = Ended next
-  partsEnd level ks at (Branch y z n next) = onwardOf (partEnd level ks (at + 3) next n)
-  partsEnd level ks at (Continuation x p n next) = onwardOf (partEnd level (bound ks x 2) (at + 3) next n)
-  partsEnd level ks at (Both x p t n next) = bothEnd level ks at x t n next
+  partsEnd level ks at (Branch y z n next) = onwardOf 36 (partEnd level ks (at + 3) next n)
+  partsEnd level ks at (Continuation x p n next) = onwardOf p (partEnd level (bound ks x 2) (at + 3) next n)
+  partsEnd level ks at (Both x p t n next) = bothEnd level ks at x p t n next
   partsEnd level ks at (Refused r) = Halted r
 
   unfoldable pub nodeEnd : ℕ → List ℕ → ℕ → Tag → After

@@ -1,26 +1,26 @@
 -- Laws of functions and of the whole file, as the functions that read a file meet them.
-use Prim.Native.Nat.{ℕ, zero, suc, _+_, _*_, _-_, _≤_, _<_}
+use Prim.Native.Nat.{ℕ, _+_, _≤_, _<_}
 use mathlib.Core.Path.{_≡_, refl, sym, ap, _∙_}
 use mathlib.Core.Bool.{Bool, true, false, cond}
-use mathlib.Core.List.{List, []}
-use native.Mathlib.Omega.{arith}
+use mathlib.Core.List.{List}
 use borrow.Author.Tests.{le-leb, lt-leb, leb-true}
 use lib.Dec.{leb}
-use lib.ListN.{length, getD}
+use lib.ListN.{length}
 use Rattle.semantics.specs.Code.{Expr, Target, Code}
 use Rattle.parsing.specs.declared.Refusal.{Refusal}
 use Rattle.parsing.specs.declared.Scan.{Scan}
 use Rattle.parsing.specs.declared.Scan.the-variants.{Past, Stopped}
 use Rattle.parsing.specs.declared.Count.the-variants.{Is, Outside}
-use Rattle.parsing.specs.Parser.{refusal, Parsed, read, refuse, Parser, andThen, many, pastOf}
+use Rattle.parsing.specs.Parser.{refusal, Parsed, read, refuse, andThen, many, pastOf}
 use Rattle.parsing.specs.Fields.{cut, marked, version, count, counted, ended}
 use Rattle.parsing.specs.ParserLaws.{past-read, past-refuse, count-is, count-outside, read-count}
 use Rattle.parsing.specs.WroteLaws.{wrote-marked, wrote-version}
 use Rattle.target_tags.specs.Tag.{pairAt}
 use Rattle.target_tags.specs.Names.{entryKinds}
-use Rattle.target_file.specs.Layout.{spc, pair, measured, sized, expression, function, functions, code}
+use Rattle.target_file.specs.Layout.{spc, pair, sized, expression, function, functions, code}
 use Rattle.target_file.specs.Ends.{measuredEnd, bodyEnd, functionsRead}
-use Rattle.target_file.specs.EndLaws.{impossible, past-measured}
+use Rattle.target_file.specs.PartLaws.{impossible}
+use Rattle.target_file.specs.EndLaws.{past-measured}
 
 -- The number of functions.
 module _ (s : List ℕ) (at : ℕ) where

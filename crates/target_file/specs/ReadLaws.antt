@@ -1,28 +1,26 @@
 -- An expression that was read stands there, nests as deep as is allowed, and has right names where they were judged.
 use Prim.Native.Nat.{ℕ, zero, suc, _+_, _≤_, _<_}
 use mathlib.Core.Path.{_≡_, refl, sym, ap, _∙_, subst}
-use mathlib.Core.Bool.{Bool, true, false, cond}
-use mathlib.Core.List.{List, [], _∷_}
+use mathlib.Core.Bool.{Bool, true, cond}
+use mathlib.Core.List.{List}
 use native.Mathlib.Omega.{arith}
-use lib.ListN.{length, getD, take, drop, length-drop}
+use lib.ListN.{length, getD, drop, length-drop}
 use lib.Seq.{length-take-le}
 use Rattle.semantics.specs.Code.{Expr, letConstant, letSlot, letDifference, jump, resume, handle, ifAtMost, letContinuation, letBoth}
-use Rattle.semantics.specs.WellFormed.{All}
-use Rattle.parsing.specs.declared.Checked.{Checked}
 use Rattle.parsing.specs.declared.Checked.the-variants.{Accepted}
-use Rattle.parsing.specs.Parser.{Parsed, read, refuse, andThen}
+use Rattle.parsing.specs.Parser.{read, andThen}
 use Rattle.parsing.specs.Fields.{valueAt}
 use Rattle.parsing.specs.ParserLaws.{both}
 use Rattle.target_tags.specs.declared.tag.Tag.{Tag}
-use Rattle.target_tags.specs.declared.tag.Tag.the-variants.{Constant, Copy, Difference, Jump, Resume, Handle, Branch, Continuation, Both}
+use Rattle.target_tags.specs.declared.tag.Tag.the-variants.{Branch, Continuation, Both}
 use Rattle.target_tags.specs.Tag.{pairAt, tagAt}
 use Rattle.target_tags.specs.Names.{_andAlso_, binds, reads, differ, function, arity, values, jumpNames, bothNames, namesOf, judged, bound}
 use Rattle.target_tags.specs.ViewLaws.{View, isConstant, isCopy, isDifference, isJump, isResume, isHandle, isBranch, isContinuation, isBoth, isRefused, view}
-use Rattle.target_file.specs.Layout.{measured, sized, Reading, nested, before, from, after, node, expressionN, expression, slotsAt}
+use Rattle.target_file.specs.Layout.{measured, sized, Reading, nested, before, from, node, expressionN, expression, slotsAt}
 use Rattle.target_file.specs.Writing.{size, Nests}
 use Rattle.target_file.specs.Facts.{ExprAt}
-use Rattle.target_file.specs.EndLaws.{impossible, before-read, after-read, measured-read, nested-read, sized-read}
-use Rattle.target_file.specs.RightLaws.{IsKind, Right, also-right, binds-right, reads-right, differ-right, function-right, arity-right, values-right}
+use Rattle.target_file.specs.PartLaws.{impossible, before-read, after-read, measured-read, nested-read, sized-read}
+use Rattle.target_file.specs.RightLaws.{Right, also-right, binds-right, reads-right, differ-right, function-right, arity-right, values-right}
 
 pub slots-length : (s : List ℕ) (at n : ℕ) → at + n ≤ length s → length (slotsAt s at n) ≡ n
 slots-length s at n h = let l = length-drop at s in length-take-le n (drop at s) (omega arith)

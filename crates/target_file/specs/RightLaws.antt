@@ -1,24 +1,23 @@
 -- The names of a node that are right, as facts about its slots.
 use Prim.Native.Nat.{ℕ, zero, suc, _+_, _≤_, _<_}
-use mathlib.Core.Path.{_≡_, refl, sym, ap, _∙_}
+use mathlib.Core.Path.{_≡_, refl}
 use mathlib.Core.Logic.{_≢_}
 use mathlib.Core.Bool.{Bool, true, false, cond}
-use mathlib.Core.List.{List, [], _∷_}
+use mathlib.Core.List.{List, _∷_}
 use native.Mathlib.Omega.{arith}
 use native.Mathlib.Numerals.{add-one}
 use borrow.Author.Tests.{ltb-true, lt-ltb, eqb-true, eqb-false, eq-eqb, ne-eqb}
 use lib.Dec.{ltb, eqb}
-use lib.ListN.{length, getD, take, drop}
+use lib.ListN.{length, getD}
 use lib.Seq.{drop-cons}
 use Rattle.semantics.specs.Code.{Expr, letConstant, letSlot, letDifference, jump, resume, handle, ifAtMost, letContinuation, letBoth}
 use Rattle.semantics.specs.WellFormed.{All}
-use Rattle.parsing.specs.declared.Refusal.{Refusal}
 use Rattle.parsing.specs.declared.Checked.{Checked}
 use Rattle.parsing.specs.declared.Checked.the-variants.{Accepted, Refused}
 use Rattle.parsing.specs.Parser.{refusal}
 use Rattle.target_tags.specs.Names.{_andAlso_, unless, binds, reads, differ, function, arity, values, bound}
 use Rattle.target_file.specs.Layout.{slotsAt}
-use Rattle.target_file.specs.EndLaws.{impossible}
+use Rattle.target_file.specs.PartLaws.{impossible}
 
 -- A slot that is read as one of kind k.
 abbrev pub IsKind : List ℕ → ℕ → ℕ → Type 0

@@ -4,7 +4,7 @@ use mathlib.Core.Path.{_≡_}
 use mathlib.Core.Bool.{false}
 use mathlib.Core.List.{List, [], _∷_}
 use lib.ListN.{length, take}
-use Rattle.semantics.specs.Code.{Target, Code}
+use Rattle.semantics.specs.Code.{Code}
 use Rattle.parsing.specs.Parser.{read}
 use Rattle.target_file.specs.Layout.{code}
 use Rattle.target_file.specs.Writing.{size}

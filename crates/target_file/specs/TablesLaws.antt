@@ -1,25 +1,24 @@
 -- Laws of the tables, as the loop that fills them meets them.
-use Prim.Native.Nat.{ℕ, zero, suc, _+_, _*_, _-_, _≤_, _<_}
+use Prim.Native.Nat.{ℕ, suc, _+_, _≤_, _<_}
 use mathlib.Core.Path.{_≡_, refl, sym, ap, _∙_, subst}
-use mathlib.Core.Bool.{true, false}
-use mathlib.Core.List.{List, [], _∷_, _++_, map}
+use mathlib.Core.Bool.{false}
+use mathlib.Core.List.{List, [], _∷_}
 use native.Mathlib.Omega.{arith}
 use native.Mathlib.Numerals.{add-one}
-use lib.ListN.{length, getD, take, drop, set, length-set, length-map, List·getD-map, length-drop}
-use lib.Seq.{take-suc, take-suc-set, drop-cons, drop-drop, getD-drop, take-all, drop-length}
+use lib.ListN.{length, getD, take, drop, set, length-set, length-map, List·getD-map}
+use lib.Seq.{take-suc, take-suc-set, drop-cons, drop-drop, getD-drop, take-all}
 use Rattle.semantics.specs.Code.{Target, Code}
 use Rattle.semantics.specs.Controller.{noTarget}
-use Rattle.parsing.specs.Parser.{Parsed, read, refuse, pastOf}
+use Rattle.parsing.specs.Parser.{read, pastOf}
 use Rattle.parsing.specs.declared.Scan.the-variants.{Past}
 use Rattle.parsing.specs.ParserLaws.{past-read}
 use Rattle.target_tags.specs.Tag.{pairAt}
 use Rattle.target_file.specs.Layout.{code}
 use Rattle.target_file.specs.Writing.{size}
-use Rattle.target_file.specs.Facts.{ExprAt}
 use Rattle.target_file.specs.Check.{arities, codeRead, codeOf}
 use Rattle.target_file.specs.StandsLaws.{stands-inside, stands-within}
-use Rattle.target_file.specs.CodeLaws.{CodeAt, FileAt, codeSize, file-read}
-use Rattle.target_file.specs.Tables.{LaidOut, startsFrom, StartsOf, Tabled}
+use Rattle.target_file.specs.CodeLaws.{CodeAt, FileAt, file-read}
+use Rattle.target_file.specs.Tables.{LaidOut, startsFrom, Tabled}
 
 -- One more element of a table.
 more-filled : (l table : List ℕ) (i v : ℕ) → i < length l → i < length table → take i l ≡ take i table → v ≡ getD table i 0 → take (i + 1) (set l i v) ≡ take (i + 1) table

@@ -15,9 +15,9 @@ ghost use Rattle.target_tags.specs.Standing.{Stands};
 ghost use Rattle.target_file.specs.Layout.{expression, function, functions, code};
 ghost use Rattle.target_file.specs.Ends.{measuredEnd, onwardOf, nodeEnd, partsEnd, bothEnd, handlerEnd, partEnd, bodyEnd, functionsRead};
 
-// What follows a node: an expression that goes on, or the end of the expression.
+// What follows a node: an expression that goes on, with a slot bound there to a whole number (36 for none), or the end of the expression.
 pub enum After {
-    Onward(usize),
+    Onward { next: usize, slot: usize },
     Ended(usize),
     Halted(Refusal),
 }
@@ -42,7 +42,7 @@ fn measured_end(part: Scan, at: usize, size: usize, place: usize) -> Scan
     ensures { λ r. ⌜ r ≡ measuredEnd place at size part ⌝ }
 {
     match part {
-        Scan::Stopped(r) => Scan::Stopped(r),
+        Scan::Stopped(first) => Scan::Stopped(first),
         Scan::Past(next) => {
             if next < at {
                 return stopped(12, place);
@@ -56,11 +56,11 @@ fn measured_end(part: Scan, at: usize, size: usize, place: usize) -> Scan
 }
 
 // What follows the last nested part of a node.
-fn onward(part: Scan) -> After
-    ensures { λ r. ⌜ r ≡ onwardOf part ⌝ }
+fn onward(part: Scan, slot: usize) -> After
+    ensures { λ r. ⌜ r ≡ onwardOf slot part ⌝ }
 {
     match part {
-        Scan::Past(next) => After::Onward(next),
+        Scan::Past(next) => After::Onward { next, slot },
         Scan::Stopped(r) => After::Halted(r),
     }
 }
@@ -83,8 +83,8 @@ fn expression_end(
     loop {
         let node = tag::tag_at(file, at);
         match node_end(file, params, names, level, seen, at, node) {
-            After::Onward(next) => {
-                let tail = names::tail_kinds(seen, node);
+            After::Onward { next, slot } => {
+                let tail = names::bind(seen, slot, 1);
                 seen = tail;
                 at = next;
             }
@@ -134,21 +134,21 @@ fn parts_end(
 {
     match node {
         Tag::Constant {
-            slot: _,
+            slot,
             value: _,
             next,
-        } => After::Onward(next),
+        } => After::Onward { next, slot },
         Tag::Copy {
-            slot: _,
+            slot,
             from: _,
             next,
-        } => After::Onward(next),
+        } => After::Onward { next, slot },
         Tag::Difference {
-            slot: _,
+            slot,
             left: _,
             right: _,
             next,
-        } => After::Onward(next),
+        } => After::Onward { next, slot },
         Tag::Jump {
             function: _,
             continuation: _,
@@ -167,25 +167,23 @@ fn parts_end(
             right: _,
             size,
             next,
-        } => onward(part_end(file, params, names, level, kinds, next, size, at + 3)),
+        } => {
+            let part = part_end(file, params, names, level, kinds, next, size, at + 3);
+            onward(part, 36)
+        }
         Tag::Continuation {
             slot,
-            parameter: _,
+            parameter,
             size,
             next,
-        } => onward(part_end(
-            file,
-            params,
-            names,
-            level,
-            names::bind(kinds, slot, 2),
-            next,
-            size,
-            at + 3,
-        )),
+        } => {
+            let rest = names::bind(kinds, slot, 2);
+            let part = part_end(file, params, names, level, rest, next, size, at + 3);
+            onward(part, parameter)
+        }
         Tag::Both {
             slot,
-            parameter: _,
+            parameter,
             handler,
             size,
             next,
@@ -197,6 +195,7 @@ fn parts_end(
             kinds,
             at,
             slot,
+            parameter,
             handler,
             size,
             next,
@@ -214,6 +213,7 @@ fn both_end(
     kinds: [u8; 36],
     at: usize,
     slot: usize,
+    parameter: usize,
     handler: usize,
     size: usize,
     next: usize,
@@ -221,11 +221,14 @@ fn both_end(
     requires { ⌜ length (now file) ≤ 65535 ⌝ }
     requires { ⌜ at < next ⌝ }
     requires { ⌜ next ≤ length (now file) ⌝ }
-    ensures { λ r. ⌜ r ≡ bothEnd names (now (params .entry)) (now (file .entry)) level kinds at slot handler size next ⌝ }
+    ensures { λ r. ⌜ r ≡ bothEnd names (now (params .entry)) (now (file .entry)) level kinds at slot parameter handler size next ⌝ }
 {
     let rest = names::bind(names::bind(kinds, slot, 2), handler, 3);
     match part_end(file, params, names, level, rest, next, size, at + 4) {
-        Scan::Past(middle) => onward(handler_end(file, params, names, level, kinds, middle)),
+        Scan::Past(middle) => {
+            let body = handler_end(file, params, names, level, kinds, middle);
+            onward(body, parameter)
+        }
         Scan::Stopped(r) => After::Halted(r),
     }
 }
@@ -294,12 +297,8 @@ fn body_end(file: &[u8], params: &[u8], names: bool, kinds: [u8; 36], at: usize)
         return cut(file);
     }
     let size = tag::pair(file[at], file[at + 1]);
-    measured_end(
-        expression_end(file, params, names, 0, kinds, start),
-        start,
-        size,
-        at,
-    )
+    let body = expression_end(file, params, names, 0, kinds, start);
+    measured_end(body, start, size, at)
 }
 
 // The end of a function.

@@ -1,7 +1,10 @@
--- The tags of translated files. Definitions: Tag, Names. Laws: the others.
+-- The tags of translated files. Definitions: Tag, Names, Made; Standing has what functions over a node ask.
 pub mod Tag
 pub mod Names
+pub mod Made
 pub mod Standing
+-- Laws.
 pub mod TagLaws
 pub mod ViewLaws
 pub mod NamesLaws
+pub mod MadeLaws

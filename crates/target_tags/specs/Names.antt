@@ -1,8 +1,8 @@
--- The names in a node, in reading order (document 01, refusals 9, 10, 11 and 13), and the kinds of the slots that the parts of a node see.
+-- The names in a node, in reading order (document 01, refusals 9, 10, 11 and 13), and the kinds of slots.
 -- A slot's kind is a number here: 0 unbound, 1 whole, 2 continuation, 3 handler. The list has the kinds of slots 0 to 35.
 use Prim.Native.Nat.{ℕ, zero, suc, _+_}
-use mathlib.Core.Bool.{Bool, true, false, cond}
-use mathlib.Core.List.{List, [], _∷_}
+use mathlib.Core.Bool.{Bool, cond}
+use mathlib.Core.List.{List, _∷_}
 use lib.Dec.{ltb, eqb}
 use lib.ListN.{length, getD, set, replicate}
 use Rattle.parsing.specs.declared.Checked.{Checked}
@@ -78,20 +78,6 @@ judged names ps ks s at t = cond names (namesOf ps ks s at t) Accepted
 -- The kinds with a slot bound. "A slot may be bound anew, with another kind."
 unfoldable pub bound : List ℕ → ℕ → ℕ → List ℕ
 bound ks x k = cond (ltb x 36) (set ks x k) ks
-
--- The kinds that what follows a node sees: the rest of tags 1 to 3, an else-part, a continuation's body. "A made body sees the slots
--- bound before it, not its own."
-unfoldable pub tailKinds : List ℕ → Tag → List ℕ
-tailKinds ks (Constant x i next) = bound ks x 1
-tailKinds ks (Copy x y next) = bound ks x 1
-tailKinds ks (Difference x y z next) = bound ks x 1
-tailKinds ks (Jump g k h n next) = ks
-tailKinds ks (Resume k y next) = ks
-tailKinds ks (Handle h next) = ks
-tailKinds ks (Branch y z n next) = ks
-tailKinds ks (Continuation x p n next) = bound ks p 1
-tailKinds ks (Both x p t n next) = bound ks p 1
-tailKinds ks (tag.the-variants.Refused r) = ks
 
 -- The kinds with which a function of n parameters begins: continuation, handler, its parameters in slots 2 upward.
 unfoldable pub entryKinds : ℕ → List ℕ

@@ -1,4 +1,5 @@
 // The names in a node: refusals 9, 10, 11 and 13.
+use crate::tag;
 use crate::tag::Tag;
 use parsing::Checked;
 use parsing::Refusal;
@@ -6,7 +7,7 @@ ghost use mathlib.Core.Path.{_≡_};
 ghost use lib.ListN.{length, getD};
 ghost use Prim.Native.Nat.{_+_, _≤_};
 ghost use Rattle.target_tags.specs.Standing.{Stands};
-ghost use Rattle.target_tags.specs.Names.{_andAlso_, jumpNames, bothNames, binds, reads, differ, function, arity, values, namesOf, judged, bound, tailKinds, entryKinds};
+ghost use Rattle.target_tags.specs.Names.{_andAlso_, jumpNames, bothNames, binds, reads, differ, function, arity, values, namesOf, judged, bound, entryKinds};
 
 fn refused(number: u8, place: usize) -> Checked
     ensures { λ r. ⌜ r ≡ Checked.Refused (record { number = number; place = place }) ⌝ }
@@ -35,16 +36,16 @@ fn binds_slot(slot: usize, place: usize) -> Checked
 }
 
 // A slot that is read as one of a kind.
-fn reads_slot(kinds: [u8; 36], kind: u8, slot: usize, place: usize) -> Checked
-    ensures { λ r. ⌜ r ≡ reads kinds kind place slot ⌝ }
+fn reads_slot(kinds: [u8; 36], kind: u8, slot: usize, at: usize) -> Checked
+    ensures { λ r. ⌜ r ≡ reads kinds kind at slot ⌝ }
 {
     if slot < 36 {
         if kinds[slot] == kind {
             return Checked::Accepted;
         }
-        return refused(11, place);
+        return refused(11, at);
     }
-    refused(13, place)
+    refused(13, at)
 }
 
 // The two slots of tag 9.
@@ -67,17 +68,11 @@ fn names_function(params: &[u8], number: usize, place: usize) -> Checked
     refused(9, place)
 }
 
-fn wide(b: u8) -> usize
-    ensures { λ r. ⌜ r ≡ b ⌝ }
-{
-    b as usize
-}
-
 fn params_of(params: &[u8], number: usize) -> usize
     ensures { λ r. ⌜ r ≡ getD (now (params .entry)) number 0 ⌝ }
 {
     if number < params.len() {
-        return wide(params[number]);
+        return tag::wide(params[number]);
     }
     0
 }
@@ -101,7 +96,7 @@ fn reads_values(file: &[u8], kinds: [u8; 36], start: usize, count: usize) -> Che
     let mut left = count;
     while 0 < left {
         left -= 1;
-        match reads_slot(kinds, 1, wide(file[at]), at) {
+        match reads_slot(kinds, 1, tag::wide(file[at]), at) {
             Checked::Refused(r) => {
                 return Checked::Refused(r);
             }
@@ -257,66 +252,6 @@ pub fn bind(kinds: [u8; 36], slot: usize, kind: u8) -> [u8; 36]
         new[slot] = kind;
     }
     new
-}
-
-// The kinds that what follows a node sees.
-pub fn tail_kinds(kinds: [u8; 36], tag: Tag) -> [u8; 36]
-    ensures { λ r. ⌜ r ≡ tailKinds kinds tag ⌝ }
-{
-    match tag {
-        Tag::Constant {
-            slot,
-            value: _,
-            next: _,
-        } => bind(kinds, slot, 1),
-        Tag::Copy {
-            slot,
-            from: _,
-            next: _,
-        } => bind(kinds, slot, 1),
-        Tag::Difference {
-            slot,
-            left: _,
-            right: _,
-            next: _,
-        } => bind(kinds, slot, 1),
-        Tag::Continuation {
-            slot: _,
-            parameter,
-            size: _,
-            next: _,
-        } => bind(kinds, parameter, 1),
-        Tag::Both {
-            slot: _,
-            parameter,
-            handler: _,
-            size: _,
-            next: _,
-        } => bind(kinds, parameter, 1),
-        Tag::Jump {
-            function: _,
-            continuation: _,
-            handler: _,
-            count: _,
-            next: _,
-        } => kinds,
-        Tag::Resume {
-            continuation: _,
-            value: _,
-            next: _,
-        } => kinds,
-        Tag::Handle {
-            handler: _,
-            next: _,
-        } => kinds,
-        Tag::Branch {
-            left: _,
-            right: _,
-            size: _,
-            next: _,
-        } => kinds,
-        Tag::Refused(_) => kinds,
-    }
 }
 
 // The kinds with which a function begins.

@@ -70,7 +70,8 @@ fn cut(file: &[u8]) -> Tag
     })
 }
 
-fn wide(b: u8) -> usize
+// A byte as a number.
+pub fn wide(b: u8) -> usize
     ensures { λ r. ⌜ r ≡ b ⌝ }
 {
     b as usize

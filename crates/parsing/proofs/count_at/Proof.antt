@@ -4,33 +4,25 @@ use Rattle.parsing.proofs.Cases.{cases}
 use borrow.Author.Needs.{needs}
 use Rattle.parsing.proofs.count_at.Statement.{statement}
 use Rattle.parsing.proofs.count_at.Tie as tie
-use Rattle.parsing.proofs.count_at.Reads as reads
-use Rattle.parsing.proofs.count_at.Lts as lts
 
--- src/lib.rt:93:9
 returns : tie.Need-returns
 unfolding count
 returns c = search cases
 
--- src/lib.rt:98:13
 shared-slice-read-k : tie.Need-shared-slice-read-k
 shared-slice-read-k c = search needs
 
--- src/lib.rt:98:13
 cast-k : tie.Need-cast-k
 cast-k c = omega (arith, c .shared-slice-known .given (c .before .before .args .at))
 
--- src/lib.rt:100:9
 returns-2 : tie.Need-returns-2
 unfolding count
 returns-2 c = search cases
 
--- src/lib.rt:106:9
 returns-3 : tie.Need-returns-3
 unfolding count
 returns-3 c = search cases
 
--- src/lib.rt:88:1
 returns-4 : tie.Need-returns-4
 unfolding count
 returns-4 c = search cases

@@ -2,15 +2,11 @@ use Rattle.parsing.specs.Fields.{ended}
 use Rattle.parsing.proofs.Cases.{cases}
 use Rattle.parsing.proofs.file_end.Statement.{statement}
 use Rattle.parsing.proofs.file_end.Tie as tie
-use Rattle.parsing.proofs.file_end.Reads as reads
-use Rattle.parsing.proofs.file_end.Lts as lts
 
--- src/lib.rt:119:9
 returns : tie.Need-returns
 unfolding ended
 returns c = search cases
 
--- src/lib.rt:115:1
 returns-2 : tie.Need-returns-2
 unfolding ended
 returns-2 c = search cases

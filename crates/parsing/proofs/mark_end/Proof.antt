@@ -8,8 +8,6 @@ use native.Mathlib.Omega.{arith}
 use borrow.Author.Needs.{needs}
 use Rattle.parsing.proofs.mark_end.Statement.{statement}
 use Rattle.parsing.proofs.mark_end.Tie as tie
-use Rattle.parsing.proofs.mark_end.Reads as reads
-use Rattle.parsing.proofs.mark_end.Lts as lts
 
 abbrev Inv-loop : tie.InvT-loop
 Inv-loop file mark i₀ i = (i ≤ length mark) × (pastOf (marked (drop i mark) file i) ≡ pastOf (marked mark file 0))
@@ -17,39 +15,30 @@ Inv-loop file mark i₀ i = (i ≤ length mark) × (pastOf (marked (drop i mark)
 abbrev μ-loop : tie.MeasureT-loop
 μ-loop file mark i₀ i = length mark - i
 
--- src/lib.rt:35:5
 loop-holds : tie.Need-loop-holds Inv-loop μ-loop
 loop-holds c = (omega arith, refl)
 
--- src/lib.rt:37:13
 returns : tie.Need-returns Inv-loop μ-loop
 returns c = sym (marked-short _ _ _ (c .before .loop-test .taken) (c .if1 .taken)) ∙ c .before .before .loop .inv .1
 
--- src/lib.rt:42:12
 shared-slice-read-if2 : tie.Need-shared-slice-read-if2 Inv-loop μ-loop
 shared-slice-read-if2 c = search needs
 
--- src/lib.rt:42:23
 shared-slice-read-if2-2 : tie.Need-shared-slice-read-if2-2 Inv-loop μ-loop
 shared-slice-read-if2-2 c = search needs
 
--- src/lib.rt:43:13
 returns-2 : tie.Need-returns-2 Inv-loop μ-loop
-returns-2 c = sym (marked-wrong _ _ _ (omega arith) (omega arith) (c .if2 .taken)) ∙ c .before .before .before .before .before .loop .inv .1
+returns-2 c = sym (marked-wrong (c .before .before .before .before .before .before .args .mark .now) (c .before .before .before .before .before .before .args .file .now) (c .before .before .before .before .before .loop .i) (omega arith) (omega arith) (c .if2 .taken)) ∙ c .before .before .before .before .before .loop .inv .1
 
--- src/lib.rt:48:9
 add-i : tie.Need-add-i Inv-loop μ-loop
 add-i c = search needs
 
--- src/lib.rt:35:5
 loop-less : tie.Need-loop-less Inv-loop μ-loop
 loop-less c = search needs
 
--- src/lib.rt:35:5
 loop-again : tie.Need-loop-again Inv-loop μ-loop
 loop-again c = (omega arith, ap pastOf (marked-on (c .before .before .before .before .before .before .args .mark .now) (c .before .before .before .before .before .before .args .file .now) (c .before .before .before .before .before .loop .i) (omega arith) (omega arith) (c .if2 .left)) ∙ c .before .before .before .before .before .loop .inv .1)
 
--- src/lib.rt:31:1
 returns-3 : tie.Need-returns-3 Inv-loop μ-loop
 returns-3 c = sym (ap pastOf (marked-done _ _ _ (c .loop-test .left))) ∙ c .before .loop .inv .1
 

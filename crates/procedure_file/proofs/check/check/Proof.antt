@@ -1,36 +1,29 @@
 use Rattle.procedure_file.specs.CheckLaws.{check-stopped, check-laid, check-named}
 use Rattle.procedure_file.specs.AcceptedLaws.{check-long}
 use native.Mathlib.Omega.{arith}
-use mathlib.Core.Path.{_≡_, refl, sym, ap, _∙_}
+use mathlib.Core.Path.{sym, _∙_}
 use borrow.Author.Needs.{needs}
 use Rattle.procedure_file.proofs.check.check.Statement.{statement}
 use Rattle.procedure_file.proofs.check.check.Tie as tie
 
--- src/check.rt:128:9
 returns : tie.Need-returns
 returns c = sym (check-long _ (c .if1 .taken))
 
--- src/check.rt:133:11
 layout-end-requires : tie.Need-layout-end-requires
 layout-end-requires c κs = search needs
 
--- src/check.rt:134:23
 enum-known-r : tie.Need-enum-known-r
 enum-known-r c = search needs
 
--- src/check.rt:135:26
 enum-told : tie.Need-enum-told
 enum-told c = search needs
 
--- src/check.rt:135:26
 names-checked-requires : tie.Need-names-checked-requires
 names-checked-requires c κs = check-laid (c .before .before .before .before .before .args .file .now) (c .before .before .before .if1 .left) (λ i. omega (arith, c .before .before .before .before .shared-slice-known .given i)) _ (sym (c .before .before .layout-end .ensures) ∙ c .enum-told .given .1)
 
--- src/check.rt:124:1
 returns-2 : tie.Need-returns-2
 returns-2 c = check-stopped (c .before .before .before .before .before .before .args .file .now) (c .before .before .before .before .if1 .left) (c .before .r .given .0 .0) (sym (c .before .before .before .layout-end .ensures) ∙ c .before .r .given .1)
 
--- src/check.rt:124:1
 returns-3 : tie.Need-returns-3
 returns-3 c = c .names-checked .ensures ∙ check-named (c .before .before .before .before .before .before .args .file .now) (c .before .before .before .before .if1 .left) (λ i. omega (arith, c .before .before .before .before .before .shared-slice-known .given i)) _ (sym (c .before .before .before .layout-end .ensures) ∙ c .before .enum-told .given .1)
 

@@ -1,9 +1,9 @@
 use Rattle.procedure_file.specs.FileNamesLaws.{functionsVerdict, one-room, naming-one, function-wrong, function-right, functions-done, all-names}
 use lib.ListN.{length}
-use Prim.Native.Nat.{_+_, _-_}
+use Prim.Native.Nat.{_-_}
 use borrow.Author.Needs.{needs}
 use native.Mathlib.Omega.{arith}
-use mathlib.Core.Path.{_≡_, refl, sym, ap, _∙_}
+use mathlib.Core.Path.{_≡_, refl, _∙_}
 use Rattle.procedure_file.proofs.check.file_named.Statement.{statement}
 use Rattle.procedure_file.proofs.check.file_named.Tie as tie
 
@@ -13,67 +13,51 @@ Inv-loop file starts handlers params locals blocks f₀ f = functionsVerdict par
 abbrev μ-loop : tie.MeasureT-loop
 μ-loop file starts handlers params locals blocks f₀ f = length params - f
 
--- src/check.rt:85:5
 loop-holds : tie.Need-loop-holds Inv-loop μ-loop
 loop-holds c = refl
 
--- src/check.rt:86:19
 shared-slice-read-own : tie.Need-shared-slice-read-own Inv-loop μ-loop
 shared-slice-read-own c = search needs
 
--- src/check.rt:86:19
 cast-own : tie.Need-cast-own Inv-loop μ-loop
 cast-own c = let r = (one-room (c .before .before .before .before .before .before .before .before .before .args .file .now) (c .before .before .before .before .before .before .before .before .before .args .starts .now) (c .before .before .before .before .before .before .before .before .before .args .handlers .now) (c .before .before .before .before .before .before .before .before .before .args .params .now) (c .before .before .before .before .before .before .before .before .before .args .locals .now) (c .before .before .before .before .before .before .before .before .before .args .blocks .now) (c .before .before .before .before .before .before .before .before .before .pre) (c .before .before .loop .f) (c .before .loop-test .taken)) in omega (arith, r .1)
 
--- src/check.rt:87:22
 shared-slice-read-others : tie.Need-shared-slice-read-others Inv-loop μ-loop
 shared-slice-read-others c = let r = (one-room (c .before .before .before .before .before .before .before .before .before .before .args .file .now) (c .before .before .before .before .before .before .before .before .before .before .args .starts .now) (c .before .before .before .before .before .before .before .before .before .before .args .handlers .now) (c .before .before .before .before .before .before .before .before .before .before .args .params .now) (c .before .before .before .before .before .before .before .before .before .before .args .locals .now) (c .before .before .before .before .before .before .before .before .before .before .args .blocks .now) (c .before .before .before .before .before .before .before .before .before .before .pre) (c .before .before .before .loop .f) (c .before .before .loop-test .taken)) in omega (arith, r .0, c .before .before .before .before .before .before .before .before .before .before .pre .localsLong)
 
--- src/check.rt:87:22
 cast-others : tie.Need-cast-others Inv-loop μ-loop
 cast-others c = let r = (one-room (c .before .before .before .before .before .before .before .before .before .before .args .file .now) (c .before .before .before .before .before .before .before .before .before .before .args .starts .now) (c .before .before .before .before .before .before .before .before .before .before .args .handlers .now) (c .before .before .before .before .before .before .before .before .before .before .args .params .now) (c .before .before .before .before .before .before .before .before .before .before .args .locals .now) (c .before .before .before .before .before .before .before .before .before .before .args .blocks .now) (c .before .before .before .before .before .before .before .before .before .before .pre) (c .before .before .before .loop .f) (c .before .before .loop-test .taken)) in omega (arith, r .2)
 
--- src/check.rt:88:25
 add-variables : tie.Need-add-variables Inv-loop μ-loop
 add-variables c = let r = (one-room (c .before .before .before .before .before .before .before .before .before .before .args .file .now) (c .before .before .before .before .before .before .before .before .before .before .args .starts .now) (c .before .before .before .before .before .before .before .before .before .before .args .handlers .now) (c .before .before .before .before .before .before .before .before .before .before .args .params .now) (c .before .before .before .before .before .before .before .before .before .before .args .locals .now) (c .before .before .before .before .before .before .before .before .before .before .args .blocks .now) (c .before .before .before .before .before .before .before .before .before .before .pre) (c .before .before .before .loop .f) (c .before .before .loop-test .taken)) in omega (arith, r .1, r .2)
 
--- src/check.rt:89:22
 shared-slice-read-labels : tie.Need-shared-slice-read-labels Inv-loop μ-loop
 shared-slice-read-labels c = let r = (one-room (c .before .before .before .before .before .before .before .before .before .before .before .args .file .now) (c .before .before .before .before .before .before .before .before .before .before .before .args .starts .now) (c .before .before .before .before .before .before .before .before .before .before .before .args .handlers .now) (c .before .before .before .before .before .before .before .before .before .before .before .args .params .now) (c .before .before .before .before .before .before .before .before .before .before .before .args .locals .now) (c .before .before .before .before .before .before .before .before .before .before .before .args .blocks .now) (c .before .before .before .before .before .before .before .before .before .before .before .pre) (c .before .before .before .before .loop .f) (c .before .before .before .loop-test .taken)) in omega (arith, r .0, c .before .before .before .before .before .before .before .before .before .before .before .pre .blocksLong)
 
--- src/check.rt:89:22
 cast-labels : tie.Need-cast-labels Inv-loop μ-loop
 cast-labels c = omega (arith, c .shared-slice-known9 .given (c .before .before .before .before .loop .f))
 
--- src/check.rt:90:15
 function-named-requires : tie.Need-function-named-requires Inv-loop μ-loop
 function-named-requires c κs = naming-one (c .before .before .before .before .before .before .before .before .before .before .before .args .file .now) (c .before .before .before .before .before .before .before .before .before .before .before .args .starts .now) (c .before .before .before .before .before .before .before .before .before .before .before .args .handlers .now) (c .before .before .before .before .before .before .before .before .before .before .before .args .params .now) (c .before .before .before .before .before .before .before .before .before .before .before .args .locals .now) (c .before .before .before .before .before .before .before .before .before .before .before .args .blocks .now) (c .before .before .before .before .before .before .before .before .before .before .before .pre) (c .before .before .before .before .loop .f) (c .before .before .before .loop-test .taken)
 
--- src/check.rt:91:30
 enum-known-r : tie.Need-enum-known-r Inv-loop μ-loop
 enum-known-r c = search needs
 
--- src/check.rt:92:17
 returns : tie.Need-returns Inv-loop μ-loop
 returns c = function-wrong (c .before .before .before .before .before .before .before .before .before .before .before .before .before .before .before .args .file .now) (c .before .before .before .before .before .before .before .before .before .before .before .before .before .before .before .args .starts .now) (c .before .before .before .before .before .before .before .before .before .before .before .before .before .before .before .args .handlers .now) (c .before .before .before .before .before .before .before .before .before .before .before .before .before .before .before .args .params .now) (c .before .before .before .before .before .before .before .before .before .before .before .before .before .before .before .args .locals .now) (c .before .before .before .before .before .before .before .before .before .before .before .before .before .before .before .args .blocks .now) (c .before .before .before .before .before .before .before .before .before .before .before .before .before .before .before .pre) (c .before .before .before .before .before .before .before .before .loop .f) (c .before .before .before .before .before .before .before .loop-test .taken) _ (c .before .r .given .0 .0) (c .before .before .before .function-named .ensures) (c .before .r .given .1) ∙ c .before .before .before .before .before .before .before .before .loop .inv ∙ all-names (c .before .before .before .before .before .before .before .before .before .before .before .before .before .before .before .args .file .now) (c .before .before .before .before .before .before .before .before .before .before .before .before .before .before .before .args .starts .now) (c .before .before .before .before .before .before .before .before .before .before .before .before .before .before .before .args .handlers .now) (c .before .before .before .before .before .before .before .before .before .before .before .before .before .before .before .args .params .now) (c .before .before .before .before .before .before .before .before .before .before .before .before .before .before .before .args .locals .now) (c .before .before .before .before .before .before .before .before .before .before .before .before .before .before .before .args .blocks .now) (c .before .before .before .before .before .before .before .before .before .before .before .before .before .before .before .pre)
 
--- src/check.rt:95:17
 enum-told : tie.Need-enum-told Inv-loop μ-loop
 enum-told c = search needs
 
--- src/check.rt:95:17
 add-f : tie.Need-add-f Inv-loop μ-loop
 add-f c = let r = (one-room (c .before .before .before .before .before .before .before .before .before .before .before .before .before .before .args .file .now) (c .before .before .before .before .before .before .before .before .before .before .before .before .before .before .args .starts .now) (c .before .before .before .before .before .before .before .before .before .before .before .before .before .before .args .handlers .now) (c .before .before .before .before .before .before .before .before .before .before .before .before .before .before .args .params .now) (c .before .before .before .before .before .before .before .before .before .before .before .before .before .before .args .locals .now) (c .before .before .before .before .before .before .before .before .before .before .before .before .before .before .args .blocks .now) (c .before .before .before .before .before .before .before .before .before .before .before .before .before .before .pre) (c .before .before .before .before .before .before .before .loop .f) (c .before .before .before .before .before .before .loop-test .taken)) in omega (arith, r .0)
 
--- src/check.rt:85:5
 loop-less : tie.Need-loop-less Inv-loop μ-loop
 loop-less c = search needs
 
--- src/check.rt:85:5
 loop-again : tie.Need-loop-again Inv-loop μ-loop
 loop-again c = function-right (c .before .before .before .before .before .before .before .before .before .before .before .before .before .before .args .file .now) (c .before .before .before .before .before .before .before .before .before .before .before .before .before .before .args .starts .now) (c .before .before .before .before .before .before .before .before .before .before .before .before .before .before .args .handlers .now) (c .before .before .before .before .before .before .before .before .before .before .before .before .before .before .args .params .now) (c .before .before .before .before .before .before .before .before .before .before .before .before .before .before .args .locals .now) (c .before .before .before .before .before .before .before .before .before .before .before .before .before .before .args .blocks .now) (c .before .before .before .before .before .before .before .before .before .before .before .before .before .before .pre) (c .before .before .before .before .before .before .before .loop .f) (c .before .before .before .before .before .before .loop-test .taken) _ (c .before .before .function-named .ensures) (c .enum-told .given .1) ∙ c .before .before .before .before .before .before .before .loop .inv
 
--- src/check.rt:73:1
 returns-2 : tie.Need-returns-2 Inv-loop μ-loop
 returns-2 c = functions-done (c .before .before .before .before .before .before .before .before .args .file .now) (c .before .before .before .before .before .before .before .before .args .starts .now) (c .before .before .before .before .before .before .before .before .args .handlers .now) (c .before .before .before .before .before .before .before .before .args .params .now) (c .before .before .before .before .before .before .before .before .args .locals .now) (c .before .before .before .before .before .before .before .before .args .blocks .now) (c .before .before .before .before .before .before .before .before .pre) (c .before .loop .f) (c .loop-test .left) ∙ c .before .loop .inv ∙ all-names (c .before .before .before .before .before .before .before .before .args .file .now) (c .before .before .before .before .before .before .before .before .args .starts .now) (c .before .before .before .before .before .before .before .before .args .handlers .now) (c .before .before .before .before .before .before .before .before .args .params .now) (c .before .before .before .before .before .before .before .before .args .locals .now) (c .before .before .before .before .before .before .before .before .args .blocks .now) (c .before .before .before .before .before .before .before .before .pre)
 

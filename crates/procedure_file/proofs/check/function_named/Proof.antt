@@ -2,7 +2,7 @@ use Rattle.procedure_file.specs.FileNamesLaws.{labelsVerdict, functionVe
 use Prim.Native.Nat.{_+_, _-_, _*_}
 use borrow.Author.Needs.{needs}
 use native.Mathlib.Omega.{arith}
-use mathlib.Core.Path.{_≡_, refl, sym, ap, _∙_}
+use mathlib.Core.Path.{_≡_, refl, _∙_}
 use Rattle.procedure_file.proofs.check.function_named.Statement.{statement}
 use Rattle.procedure_file.proofs.check.function_named.Tie as tie
 
@@ -12,94 +12,72 @@ Inv-loop file f labels variables starts handlers params row entry l₀ l = label
 abbrev μ-loop : tie.MeasureT-loop
 μ-loop file f labels variables starts handlers params row entry l₀ l = labels - l
 
--- src/check.rt:48:15
 mul-row : tie.Need-mul-row Inv-loop μ-loop
 mul-row c = let r = (naming-room (c .before .before .before .before .args .params .now) (c .before .before .before .before .args .file .now) (c .before .before .before .before .args .f) (c .before .before .before .before .args .labels) (c .before .before .before .before .args .variables) (c .before .before .before .before .args .starts .now) (c .before .before .before .before .args .handlers .now) (c .before .before .before .before .pre)) in omega (arith, r .0)
 
--- src/check.rt:49:17
 mul-entry : tie.Need-mul-entry Inv-loop μ-loop
 mul-entry c = let r = (naming-room (c .before .before .before .before .args .params .now) (c .before .before .before .before .args .file .now) (c .before .before .before .before .args .f) (c .before .before .before .before .args .labels) (c .before .before .before .before .args .variables) (c .before .before .before .before .args .starts .now) (c .before .before .before .before .args .handlers .now) (c .before .before .before .before .pre)) in omega (arith, r .0)
 
--- src/check.rt:49:17
 shared-slice-read-entry : tie.Need-shared-slice-read-entry Inv-loop μ-loop
 shared-slice-read-entry c = let r = (naming-room (c .before .before .before .before .before .args .params .now) (c .before .before .before .before .before .args .file .now) (c .before .before .before .before .before .args .f) (c .before .before .before .before .before .args .labels) (c .before .before .before .before .before .args .variables) (c .before .before .before .before .before .args .starts .now) (c .before .before .before .before .before .args .handlers .now) (c .before .before .before .before .before .pre)) in omega (arith, r .0, c .before .before .before .before .before .pre .startsLong)
 
--- src/check.rt:49:17
 cast-entry : tie.Need-cast-entry Inv-loop μ-loop
 cast-entry c = omega (arith, c .shared-slice-known5 .given (64 * c .before .before .before .before .before .args .f))
 
--- src/check.rt:50:11
 block-named-requires : tie.Need-block-named-requires Inv-loop μ-loop
 block-named-requires c κs = tt
 
--- src/check.rt:51:26
 enum-known-r : tie.Need-enum-known-r Inv-loop μ-loop
 enum-known-r c = search needs
 
--- src/check.rt:52:13
 returns : tie.Need-returns Inv-loop μ-loop
 returns c = entry-wrong (c .before .before .before .before .before .before .before .before .before .args .params .now) (c .before .before .before .before .before .before .before .before .before .args .file .now) (c .before .before .before .before .before .before .before .before .before .args .f) (c .before .before .before .before .before .before .before .before .before .args .labels) (c .before .before .before .before .before .before .before .before .before .args .variables) (c .before .before .before .before .before .before .before .before .before .args .starts .now) (c .before .before .before .before .before .before .before .before .before .args .handlers .now) (c .before .before .before .before .before .before .before .before .before .pre) _ (c .before .r .given .0 .0) _ refl (c .before .before .before .block-named .ensures) (c .before .r .given .1)
 
 enum-told : tie.Need-enum-told Inv-loop μ-loop
 enum-told c = search needs
 
--- src/check.rt:57:5
 loop-holds : tie.Need-loop-holds Inv-loop μ-loop
 loop-holds c = entry-right (c .before .before .before .before .before .before .before .before .args .params .now) (c .before .before .before .before .before .before .before .before .args .file .now) (c .before .before .before .before .before .before .before .before .args .f) (c .before .before .before .before .before .before .before .before .args .labels) (c .before .before .before .before .before .before .before .before .args .variables) (c .before .before .before .before .before .before .before .before .args .starts .now) (c .before .before .before .before .before .before .before .before .args .handlers .now) (c .before .before .before .before .before .before .before .before .pre) _ _ refl (c .before .before .block-named .ensures) (c .enum-told .given .1)
 
--- src/check.rt:58:27
 add-slot : tie.Need-add-slot Inv-loop μ-loop
 add-slot c = let r = (naming-room (c .before .before .before .before .before .before .before .before .before .before .args .params .now) (c .before .before .before .before .before .before .before .before .before .before .args .file .now) (c .before .before .before .before .before .before .before .before .before .before .args .f) (c .before .before .before .before .before .before .before .before .before .before .args .labels) (c .before .before .before .before .before .before .before .before .before .before .args .variables) (c .before .before .before .before .before .before .before .before .before .before .args .starts .now) (c .before .before .before .before .before .before .before .before .before .before .args .handlers .now) (c .before .before .before .before .before .before .before .before .before .before .pre)) in omega (arith, r .1, c .loop-test .taken)
 
--- src/check.rt:58:20
 add-slot-2 : tie.Need-add-slot-2 Inv-loop μ-loop
 add-slot-2 c = let r = (naming-room (c .before .before .before .before .before .before .before .before .before .before .args .params .now) (c .before .before .before .before .before .before .before .before .before .before .args .file .now) (c .before .before .before .before .before .before .before .before .before .before .args .f) (c .before .before .before .before .before .before .before .before .before .before .args .labels) (c .before .before .before .before .before .before .before .before .before .before .args .variables) (c .before .before .before .before .before .before .before .before .before .before .args .starts .now) (c .before .before .before .before .before .before .before .before .before .before .args .handlers .now) (c .before .before .before .before .before .before .before .before .before .before .pre)) in omega (arith, r .0, r .1, c .loop-test .taken)
 
--- src/check.rt:59:21
 mul-start : tie.Need-mul-start Inv-loop μ-loop
 mul-start c = let r = (naming-room (c .before .before .before .before .before .before .before .before .before .before .args .params .now) (c .before .before .before .before .before .before .before .before .before .before .args .file .now) (c .before .before .before .before .before .before .before .before .before .before .args .f) (c .before .before .before .before .before .before .before .before .before .before .args .labels) (c .before .before .before .before .before .before .before .before .before .before .args .variables) (c .before .before .before .before .before .before .before .before .before .before .args .starts .now) (c .before .before .before .before .before .before .before .before .before .before .args .handlers .now) (c .before .before .before .before .before .before .before .before .before .before .pre)) in omega (arith, r .0, r .1, c .loop-test .taken)
 
--- src/check.rt:59:21
 shared-slice-read-start : tie.Need-shared-slice-read-start Inv-loop μ-loop
 shared-slice-read-start c = let r = (naming-room (c .before .before .before .before .before .before .before .before .before .before .before .args .params .now) (c .before .before .before .before .before .before .before .before .before .before .before .args .file .now) (c .before .before .before .before .before .before .before .before .before .before .before .args .f) (c .before .before .before .before .before .before .before .before .before .before .before .args .labels) (c .before .before .before .before .before .before .before .before .before .before .before .args .variables) (c .before .before .before .before .before .before .before .before .before .before .before .args .starts .now) (c .before .before .before .before .before .before .before .before .before .before .before .args .handlers .now) (c .before .before .before .before .before .before .before .before .before .before .before .pre)) in omega (arith, r .0, r .1, c .before .loop-test .taken, c .before .before .before .before .before .before .before .before .before .before .before .pre .startsLong)
 
--- src/check.rt:59:21
 cast-start : tie.Need-cast-start Inv-loop μ-loop
 cast-start c = omega (arith, c .shared-slice-known6 .given (64 * c .before .before .before .before .before .before .before .before .before .before .before .args .f + (c .before .before .loop .l + 1)))
 
--- src/check.rt:60:36
 shared-slice-read-labelled-named : tie.Need-shared-slice-read-labelled-named Inv-loop μ-loop
 shared-slice-read-labelled-named c = let r = (naming-room (c .before .before .before .before .before .before .before .before .before .before .before .before .args .params .now) (c .before .before .before .before .before .before .before .before .before .before .before .before .args .file .now) (c .before .before .before .before .before .before .before .before .before .before .before .before .args .f) (c .before .before .before .before .before .before .before .before .before .before .before .before .args .labels) (c .before .before .before .before .before .before .before .before .before .before .before .before .args .variables) (c .before .before .before .before .before .before .before .before .before .before .before .before .args .starts .now) (c .before .before .before .before .before .before .before .before .before .before .before .before .args .handlers .now) (c .before .before .before .before .before .before .before .before .before .before .before .before .pre)) in omega (arith, r .0, r .1, c .before .before .loop-test .taken, c .before .before .before .before .before .before .before .before .before .before .before .before .pre .handlersLong)
 
--- src/check.rt:60:15
 labelled-named-requires : tie.Need-labelled-named-requires Inv-loop μ-loop
 labelled-named-requires c κs = start-positive (c .before .before .before .before .before .before .before .before .before .before .before .before .args .params .now) (c .before .before .before .before .before .before .before .before .before .before .before .before .args .file .now) (c .before .before .before .before .before .before .before .before .before .before .before .before .args .f) (c .before .before .before .before .before .before .before .before .before .before .before .before .args .labels) (c .before .before .before .before .before .before .before .before .before .before .before .before .args .variables) (c .before .before .before .before .before .before .before .before .before .before .before .before .args .starts .now) (c .before .before .before .before .before .before .before .before .before .before .before .before .args .handlers .now) (c .before .before .before .before .before .before .before .before .before .before .before .before .pre) (c .before .before .before .loop .l + 1) (omega (arith, c .before .before .loop-test .taken))
 
--- src/check.rt:61:30
 enum-known-r-2 : tie.Need-enum-known-r-2 Inv-loop μ-loop
 enum-known-r-2 c = search needs
 
--- src/check.rt:62:17
 returns-2 : tie.Need-returns-2 Inv-loop μ-loop
 returns-2 c = label-wrong (c .before .before .before .before .before .before .before .before .before .before .before .before .before .before .before .before .args .params .now) (c .before .before .before .before .before .before .before .before .before .before .before .before .before .before .before .before .args .file .now) (c .before .before .before .before .before .before .before .before .before .before .before .before .before .before .before .before .args .f) (c .before .before .before .before .before .before .before .before .before .before .before .before .before .before .before .before .args .labels) (c .before .before .before .before .before .before .before .before .before .before .before .before .before .before .before .before .args .variables) (c .before .before .before .before .before .before .before .before .before .before .before .before .before .before .before .before .args .starts .now) (c .before .before .before .before .before .before .before .before .before .before .before .before .before .before .before .before .args .handlers .now) (c .before .before .before .before .before .before .before .before .before .before .before .before .before .before .before .before .pre) (c .before .before .before .before .before .before .before .loop .l) (c .before .before .before .before .before .before .loop-test .taken) _ (c .before .r2 .given .0 .0) _ _ refl refl (c .before .before .before .labelled-named .ensures) (c .before .r2 .given .1) ∙ c .before .before .before .before .before .before .before .loop .inv
 
--- src/check.rt:65:17
 enum-told-2 : tie.Need-enum-told-2 Inv-loop μ-loop
 enum-told-2 c = search needs
 
--- src/check.rt:65:17
 add-l : tie.Need-add-l Inv-loop μ-loop
 add-l c = let r = (naming-room (c .before .before .before .before .before .before .before .before .before .before .before .before .before .before .before .args .params .now) (c .before .before .before .before .before .before .before .before .before .before .before .before .before .before .before .args .file .now) (c .before .before .before .before .before .before .before .before .before .before .before .before .before .before .before .args .f) (c .before .before .before .before .before .before .before .before .before .before .before .before .before .before .before .args .labels) (c .before .before .before .before .before .before .before .before .before .before .before .before .before .before .before .args .variables) (c .before .before .before .before .before .before .before .before .before .before .before .before .before .before .before .args .starts .now) (c .before .before .before .before .before .before .before .before .before .before .before .before .before .before .before .args .handlers .now) (c .before .before .before .before .before .before .before .before .before .before .before .before .before .before .before .pre)) in omega (arith, r .1, c .before .before .before .before .before .loop-test .taken)
 
--- src/check.rt:57:5
 loop-less : tie.Need-loop-less Inv-loop μ-loop
 loop-less c = search needs
 
--- src/check.rt:57:5
 loop-again : tie.Need-loop-again Inv-loop μ-loop
 loop-again c = label-right (c .before .before .before .before .before .before .before .before .before .before .before .before .before .before .before .args .params .now) (c .before .before .before .before .before .before .before .before .before .before .before .before .before .before .before .args .file .now) (c .before .before .before .before .before .before .before .before .before .before .before .before .before .before .before .args .f) (c .before .before .before .before .before .before .before .before .before .before .before .before .before .before .before .args .labels) (c .before .before .before .before .before .before .before .before .before .before .before .before .before .before .before .args .variables) (c .before .before .before .before .before .before .before .before .before .before .before .before .before .before .before .args .starts .now) (c .before .before .before .before .before .before .before .before .before .before .before .before .before .before .before .args .handlers .now) (c .before .before .before .before .before .before .before .before .before .before .before .before .before .before .before .pre) (c .before .before .before .before .before .before .loop .l) (c .before .before .before .before .before .loop-test .taken) _ _ _ refl refl (c .before .before .labelled-named .ensures) (c .enum-told2 .given .1) ∙ c .before .before .before .before .before .before .loop .inv
 
--- src/check.rt:36:1
 returns-3 : tie.Need-returns-3 Inv-loop μ-loop
 returns-3 c = labels-done (c .before .before .before .before .before .before .before .before .before .before .args .params .now) (c .before .before .before .before .before .before .before .before .before .before .args .file .now) (c .before .before .before .before .before .before .before .before .before .before .args .f) (c .before .before .before .before .before .before .before .before .before .before .args .labels) (c .before .before .before .before .before .before .before .before .before .before .args .variables) (c .before .before .before .before .before .before .before .before .before .before .args .starts .now) (c .before .before .before .before .before .before .before .before .before .before .args .handlers .now) (c .before .before .before .before .before .before .before .before .before .before .pre) (c .before .loop .l) (c .loop-test .left) ∙ c .before .loop .inv
 

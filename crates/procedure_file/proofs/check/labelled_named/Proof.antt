@@ -1,22 +1,17 @@
 use borrow.Author.Tests.{le-leb, lt-leb}
-use mathlib.Core.Path.{_≡_, refl, sym, ap, _∙_}
 use borrow.Author.Needs.{needs}
 use Rattle.procedure_file.proofs.check.labelled_named.Statement.{statement}
 use Rattle.procedure_file.proofs.check.labelled_named.Tie as tie
 
--- src/check.rt:28:17
 sub-place : tie.Need-sub-place
 sub-place c = search needs
 
--- src/check.rt:30:9
 returns : tie.Need-returns
 returns c = rw (lt-leb (c .before .before .before .args .handler) (c .before .before .before .args .labels) (c .if1 .taken))
 
--- src/check.rt:32:5
 block-named-requires : tie.Need-block-named-requires
 block-named-requires c κs = search needs
 
--- src/check.rt:17:1
 returns-2 : tie.Need-returns-2
 returns-2 c = rw (le-leb (c .before .before .before .before .args .handler) (c .before .before .before .before .args .labels) (c .before .if1 .left)) (c .block-named .ensures)
 

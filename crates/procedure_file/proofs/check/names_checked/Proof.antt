@@ -3,64 +3,50 @@ use Rattle.procedure_file.specs.FileNamesLaws.{naming-given}
 use lib.Seq.{length-take-le}
 use lib.ListN.{length-replicate}
 use native.Mathlib.Omega.{arith}
-use mathlib.Core.Path.{_≡_, refl, sym, ap, _∙_}
+use mathlib.Core.Path.{sym, _∙_}
 use borrow.Author.Needs.{needs}
 use Rattle.procedure_file.proofs.check.names_checked.Statement.{statement}
 use Rattle.procedure_file.proofs.check.names_checked.Tie as tie
 
--- src/check.rt:114:9
 slice-aggregate-fill : tie.Need-slice-aggregate-fill
 slice-aggregate-fill c = search needs
 
--- src/check.rt:115:9
 slice-aggregate-fill-2 : tie.Need-slice-aggregate-fill-2
 slice-aggregate-fill-2 c = search needs
 
--- src/check.rt:116:9
 slice-aggregate-fill-3 : tie.Need-slice-aggregate-fill-3
 slice-aggregate-fill-3 c = search needs
 
--- src/check.rt:117:9
 slice-aggregate-fill-4 : tie.Need-slice-aggregate-fill-4
 slice-aggregate-fill-4 c = search needs
 
--- src/check.rt:118:9
 slice-aggregate-fill-5 : tie.Need-slice-aggregate-fill-5
 slice-aggregate-fill-5 c = search needs
 
--- src/check.rt:112:9
 fill-requires : tie.Need-fill-requires
 fill-requires c κs = search needs
 
--- src/check.rt:120:22
 slice-aggregate-file-named : tie.Need-slice-aggregate-file-named
 slice-aggregate-file-named c = search needs
 
--- src/check.rt:120:31
 slice-aggregate-file-named-2 : tie.Need-slice-aggregate-file-named-2
 slice-aggregate-file-named-2 c = search needs
 
--- src/check.rt:120:42
 array-share-prefix-params : tie.Need-array-share-prefix-params
 array-share-prefix-params c = search needs
 
--- src/check.rt:120:42
 slice-aggregate-file-named-3 : tie.Need-slice-aggregate-file-named-3
 slice-aggregate-file-named-3 c = sym (length-take-le _ _ (omega (arith, c .before .before .before .before .before .before .before .before .fill .ensures .countIs, c .before .before .before .before .before .before .before .before .before .before .before .before .before .before .before .pre .reads .most, c .before .before .before .before .before .before .before .before .fill .kept .1 .1 .1 .0)))
 
--- src/check.rt:120:60
 slice-aggregate-file-named-4 : tie.Need-slice-aggregate-file-named-4
 slice-aggregate-file-named-4 c = search needs
 
--- src/check.rt:120:69
 slice-aggregate-file-named-5 : tie.Need-slice-aggregate-file-named-5
 slice-aggregate-file-named-5 c = search needs
 
--- src/check.rt:120:5
 file-named-requires : tie.Need-file-named-requires
 file-named-requires c κs = naming-given (c .before .before .before .before .before .before .before .before .before .before .before .before .before .before .before .before .before .args .file .now) _ _ _ _ _ _ (c .before .before .before .before .before .before .before .before .before .before .before .before .before .before .before .before .before .pre) (c .before .before .before .before .before .before .before .before .before .before .fill .ensures) (c .before .before .before .before .before .before .before .before .before .before .fill .kept .1 .0 ∙ length-replicate {A = ℕ} 2048 0) (c .before .before .before .before .before .before .before .before .before .before .fill .kept .1 .1 .0 ∙ length-replicate {A = ℕ} 2048 0) (c .before .before .before .before .before .before .before .before .before .before .fill .kept .1 .1 .1 .0) (c .before .before .before .before .before .before .before .before .before .before .fill .kept .1 .1 .1 .1 .0) (c .before .before .before .before .before .before .before .before .before .before .fill .kept .1 .1 .1 .1 .1 .0)
 
--- src/check.rt:103:1
 returns : tie.Need-returns
 returns c = search needs
 

@@ -4,35 +4,27 @@ use borrow.Author.Needs.{needs}
 use Rattle.procedure_file.proofs.lookup.argument.Statement.{statement}
 use Rattle.procedure_file.proofs.lookup.argument.Tie as tie
 
--- src/lookup.rt:104:9
 returns : tie.Need-returns
 returns c = argument-past (c .before .args .file .now) (c .before .args .at) (c .before .args .i) (omega arith)
 
--- src/lookup.rt:106:8
 sub-if2 : tie.Need-sub-if2
 sub-if2 c = search needs
 
--- src/lookup.rt:107:9
 returns-2 : tie.Need-returns-2
 returns-2 c = argument-past (c .before .before .args .file .now) (c .before .before .args .at) (c .before .before .args .i) (omega arith)
 
--- src/lookup.rt:109:17
 add-place : tie.Need-add-place
 add-place c = search needs
 
--- src/lookup.rt:109:17
 add-place-2 : tie.Need-add-place-2
 add-place-2 c = search needs
 
--- src/lookup.rt:111:9
 returns-3 : tie.Need-returns-3
 returns-3 c = argument-past (c .before .before .before .args .file .now) (c .before .before .before .args .at) (c .before .before .before .args .i) (c .if3 .taken)
 
--- src/lookup.rt:113:5
 shared-slice-read-result : tie.Need-shared-slice-read-result
 shared-slice-read-result c = search needs
 
--- src/lookup.rt:99:1
 returns-4 : tie.Need-returns-4
 returns-4 c = search needs
 

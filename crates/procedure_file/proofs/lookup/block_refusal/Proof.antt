@@ -1,26 +1,21 @@
 use Rattle.procedure_file.specs.LookupLaws.{lookup-none, lookup-some}
-use mathlib.Core.Path.{_≡_, refl, sym, ap, _∙_}
+use mathlib.Core.Path.{sym, _∙_}
 use borrow.Author.Needs.{needs}
 use Rattle.procedure_file.proofs.lookup.block_refusal.Statement.{statement}
 use Rattle.procedure_file.proofs.lookup.block_refusal.Tie as tie
 
--- src/lookup.rt:92:11
 place-of-requires : tie.Need-place-of-requires
 place-of-requires c κs = search needs
 
--- src/lookup.rt:93:41
 enum-told : tie.Need-enum-told
 enum-told c = search needs
 
--- src/lookup.rt:94:24
 enum-known-r : tie.Need-enum-known-r
 enum-known-r c = search needs
 
--- src/lookup.rt:89:1
 returns : tie.Need-returns
 returns c = lookup-some (c .before .before .before .before .args .file .now) (c .before .before .before .before .args .f) (c .before .before .before .before .args .label) _ _ (sym (c .before .before .place-of .ensures) ∙ c .enum-told .given .1)
 
--- src/lookup.rt:89:1
 returns-2 : tie.Need-returns-2
 returns-2 c = lookup-none (c .before .before .before .before .before .args .file .now) (c .before .before .before .before .before .args .f) (c .before .before .before .before .before .args .label) _ (sym (c .before .before .before .place-of .ensures) ∙ c .before .r .given .1)
 

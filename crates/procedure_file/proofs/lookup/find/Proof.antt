@@ -1,49 +1,38 @@
 use Rattle.procedure_file.specs.LookupLaws.{finding-given}
 use lib.ListN.{length-replicate}
 use Prim.Native.Nat.{ℕ}
-use native.Mathlib.Omega.{arith}
-use mathlib.Core.Path.{_≡_, refl, sym, ap, _∙_}
+use mathlib.Core.Path.{_∙_}
 use borrow.Author.Needs.{needs}
 use Rattle.procedure_file.proofs.lookup.find.Statement.{statement}
 use Rattle.procedure_file.proofs.lookup.find.Tie as tie
 
--- src/lookup.rt:66:9
 slice-aggregate-fill : tie.Need-slice-aggregate-fill
 slice-aggregate-fill c = search needs
 
--- src/lookup.rt:67:9
 slice-aggregate-fill-2 : tie.Need-slice-aggregate-fill-2
 slice-aggregate-fill-2 c = search needs
 
--- src/lookup.rt:68:9
 slice-aggregate-fill-3 : tie.Need-slice-aggregate-fill-3
 slice-aggregate-fill-3 c = search needs
 
--- src/lookup.rt:69:9
 slice-aggregate-fill-4 : tie.Need-slice-aggregate-fill-4
 slice-aggregate-fill-4 c = search needs
 
--- src/lookup.rt:70:9
 slice-aggregate-fill-5 : tie.Need-slice-aggregate-fill-5
 slice-aggregate-fill-5 c = search needs
 
--- src/lookup.rt:64:9
 fill-requires : tie.Need-fill-requires
 fill-requires c κs = search needs
 
--- src/lookup.rt:72:36
 slice-aggregate-find-in : tie.Need-slice-aggregate-find-in
 slice-aggregate-find-in c = search needs
 
--- src/lookup.rt:72:45
 slice-aggregate-find-in-2 : tie.Need-slice-aggregate-find-in-2
 slice-aggregate-find-in-2 c = search needs
 
--- src/lookup.rt:72:5
 find-in-requires : tie.Need-find-in-requires
 find-in-requires c κs = finding-given (c .before .before .before .before .before .before .before .before .before .before .before .before .before .before .args .file .now) _ _ _ _ _ _ (c .before .before .before .before .before .before .before .before .before .before .before .before .before .before .pre) (c .before .before .before .before .before .before .before .fill .ensures) (c .before .before .before .before .before .before .before .fill .kept .1 .0 ∙ length-replicate {A = ℕ} 2048 0) (c .before .before .before .before .before .before .before .fill .kept .1 .1 .1 .1 .1 .0)
 
--- src/lookup.rt:55:1
 returns : tie.Need-returns
 returns c = search needs
 

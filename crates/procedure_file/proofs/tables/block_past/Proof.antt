@@ -1,27 +1,22 @@
 use Rattle.procedure_layout.specs.Layout.{block}
 use Rattle.procedure_layout.specs.LayoutLaws.{end-past, end-stopped}
-use mathlib.Core.Path.{_≡_, refl, sym, ap, _∙_}
+use mathlib.Core.Path.{sym, _∙_}
 use borrow.Author.Needs.{needs}
 use Rattle.procedure_file.proofs.tables.block_past.Statement.{statement}
 use Rattle.procedure_file.proofs.tables.block_past.Tie as tie
 
--- src/tables.rt:15:11
 block-end-requires : tie.Need-block-end-requires
 block-end-requires c κs = search needs
 
--- src/tables.rt:16:20
 enum-known-next : tie.Need-enum-known-next
 enum-known-next c = search needs
 
--- src/tables.rt:17:29
 enum-told : tie.Need-enum-told
 enum-told c = search needs
 
--- src/tables.rt:12:1
 returns : tie.Need-returns
 returns c = end-past (block (c .before .before .before .before .before .args .file .now) (c .before .before .before .before .before .args .at)) _ (sym (c .before .before .before .block-end .ensures) ∙ c .before .next .given .1)
 
--- src/tables.rt:12:1
 returns-2 : tie.Need-returns-2
 returns-2 c = end-stopped (block (c .before .before .before .before .args .file .now) (c .before .before .before .before .args .at)) _ (sym (c .before .before .block-end .ensures) ∙ c .enum-told .given .1)
 

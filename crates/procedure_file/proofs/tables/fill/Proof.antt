@@ -1,8 +1,8 @@
 use Rattle.procedure_file.specs.FillLaws.{Part, part-begins, part-room, part-row, part-turns, part-full, count-inside}
-use Prim.Native.Nat.{_+_, _-_}
+use Prim.Native.Nat.{_-_}
 use borrow.Author.Needs.{needs}
 use native.Mathlib.Omega.{arith}
-use mathlib.Core.Path.{_≡_, refl, sym, ap, _∙_}
+use mathlib.Core.Path.{sym, _∙_}
 use Rattle.procedure_file.proofs.tables.fill.Statement.{statement}
 use Rattle.procedure_file.proofs.tables.fill.Tie as tie
 
@@ -12,79 +12,60 @@ Inv-loop file starts₀ handlers₀ params₀ locals₀ blocks₀ count at₀ f�
 abbrev μ-loop : tie.MeasureT-loop
 μ-loop file starts₀ handlers₀ params₀ locals₀ blocks₀ count at₀ f₀ starts handlers params locals blocks at f = count - f
 
--- src/tables.rt:81:17
 shared-slice-read-count : tie.Need-shared-slice-read-count Inv-loop μ-loop
 shared-slice-read-count c = count-inside (c .before .before .before .before .before .before .before .args .file .now) (c .before .before .before .before .before .before .before .pre .laid)
 
--- src/tables.rt:81:17
 cast-count : tie.Need-cast-count Inv-loop μ-loop
 cast-count c = omega (arith, c .shared-slice-known2 .given 5)
 
--- src/tables.rt:84:5
 loop-holds : tie.Need-loop-holds Inv-loop μ-loop
 loop-holds c = part-begins _ _ _ _ _ _ (c .before .before .before .before .before .before .before .pre)
 
--- src/tables.rt:85:22
 add-second : tie.Need-add-second Inv-loop μ-loop
 add-second c = let r = (part-room _ _ _ _ _ _ _ _ _ (c .before .loop .inv) (c .loop-test .taken)) in omega (arith, r .1, r .2)
 
--- src/tables.rt:86:21
 add-third : tie.Need-add-third Inv-loop μ-loop
 add-third c = let r = (part-room _ _ _ _ _ _ _ _ _ (c .before .loop .inv) (c .loop-test .taken)) in omega (arith, r .1, r .2)
 
--- src/tables.rt:92:13
 shared-slice-read-put-counts : tie.Need-shared-slice-read-put-counts Inv-loop μ-loop
 shared-slice-read-put-counts c = let r = (part-room _ _ _ _ _ _ _ _ _ (c .before .before .before .before .before .loop .inv) (c .before .before .before .before .loop-test .taken)) in omega (arith, r .1)
 
--- src/tables.rt:93:13
 shared-slice-read-put-counts-2 : tie.Need-shared-slice-read-put-counts-2 Inv-loop μ-loop
 shared-slice-read-put-counts-2 c = let r = (part-room _ _ _ _ _ _ _ _ _ (c .before .before .before .before .before .before .loop .inv) (c .before .before .before .before .before .loop-test .taken)) in omega (arith, r .1)
 
--- src/tables.rt:94:13
 shared-slice-read-put-counts-3 : tie.Need-shared-slice-read-put-counts-3 Inv-loop μ-loop
 shared-slice-read-put-counts-3 c = let r = (part-room _ _ _ _ _ _ _ _ _ (c .before .before .before .before .before .before .before .loop .inv) (c .before .before .before .before .before .before .loop-test .taken)) in omega (arith, r .1)
 
--- src/tables.rt:87:9
 put-counts-requires : tie.Need-put-counts-requires Inv-loop μ-loop
 put-counts-requires c κs = let r = (part-room _ _ _ _ _ _ _ _ _ (c .before .before .before .before .before .before .before .loop .inv) (c .before .before .before .before .before .before .loop-test .taken)) in let l = c .before .before .before .before .before .before .before .loop .inv .lent in (omega (arith, r .0, l .paramsLong), omega (arith, r .0, l .localsLong), omega (arith, r .0, l .blocksLong))
 
--- src/tables.rt:96:9
 fill-row-requires : tie.Need-fill-row-requires Inv-loop μ-loop
 fill-row-requires c κs = part-row _ _ _ _ _ _ _ _ _ (c .before .before .before .before .before .before .before .before .before .before .before .before .before .before .before .before .loop .inv) (c .before .before .before .before .before .before .before .before .before .before .before .before .before .before .before .loop-test .taken)
 
--- src/tables.rt:97:9
 add-f : tie.Need-add-f Inv-loop μ-loop
 add-f c = let r = (part-room _ _ _ _ _ _ _ _ _ (c .before .before .before .before .before .before .before .before .before .before .before .before .before .before .before .before .before .before .before .before .before .loop .inv) (c .before .before .before .before .before .before .before .before .before .before .before .before .before .before .before .before .before .before .before .before .loop-test .taken)) in omega (arith, r .0)
 
--- src/tables.rt:84:5
 loop-less : tie.Need-loop-less Inv-loop μ-loop
 loop-less c = search needs
 
--- src/tables.rt:84:5
 loop-again : tie.Need-loop-again Inv-loop μ-loop
 loop-again c = part-turns _ _ _ _ _ _ _ _ _ (c .before .before .before .before .before .before .before .before .before .before .before .before .before .before .before .before .before .before .before .before .before .loop .inv) (c .before .before .before .before .before .before .before .before .before .before .before .before .before .before .before .before .before .before .before .before .loop-test .taken) _ _ _ _ _ _ (c .before .before .before .before .before .before .before .before .before .before .before .before .before .put-counts .ensures .0) (c .before .before .before .before .before .before .before .before .before .before .before .before .before .put-counts .ensures .1) (c .before .before .before .before .before .before .before .before .before .before .before .before .before .put-counts .ensures .2) (c .before .before .before .before .fill-row .ensures) (c .before .before .before .before .fill-row .kept .1 .1 .1 .0) (c .before .before .before .before .fill-row .kept .1 .1 .1 .1 .0)
 
--- src/tables.rt:70:1
 same-length : tie.Need-same-length Inv-loop μ-loop
 same-length c = c .before .loop .inv .lent .startsLong ∙ sym (c .before .before .before .before .before .before .before .before .before .pre .startsLong)
 
--- src/tables.rt:70:1
 same-length-2 : tie.Need-same-length-2 Inv-loop μ-loop
 same-length-2 c = c .before .loop .inv .lent .handlersLong ∙ sym (c .before .before .before .before .before .before .before .before .before .pre .handlersLong)
 
--- src/tables.rt:70:1
 same-length-3 : tie.Need-same-length-3 Inv-loop μ-loop
 same-length-3 c = c .before .loop .inv .lent .paramsLong ∙ sym (c .before .before .before .before .before .before .before .before .before .pre .paramsLong)
 
--- src/tables.rt:70:1
 same-length-4 : tie.Need-same-length-4 Inv-loop μ-loop
 same-length-4 c = c .before .loop .inv .lent .localsLong ∙ sym (c .before .before .before .before .before .before .before .before .before .pre .localsLong)
 
--- src/tables.rt:70:1
 same-length-5 : tie.Need-same-length-5 Inv-loop μ-loop
 same-length-5 c = c .before .loop .inv .lent .blocksLong ∙ sym (c .before .before .before .before .before .before .before .before .before .pre .blocksLong)
 
--- src/tables.rt:70:1
 returns : tie.Need-returns Inv-loop μ-loop
 returns c = part-full _ _ _ _ _ _ _ _ _ (c .before .loop .inv) (c .loop-test .left)
 

@@ -1,8 +1,8 @@
 use Rattle.procedure_file.specs.FillLaws.{Row, filling-room, row-room, row-starts, row-turns, row-full}
-use Prim.Native.Nat.{_+_, _-_, _*_}
+use Prim.Native.Nat.{_+_, _-_}
 use borrow.Author.Needs.{needs}
 use native.Mathlib.Omega.{arith}
-use mathlib.Core.Path.{_≡_, refl, sym, ap, _∙_}
+use mathlib.Core.Path.{sym, _∙_}
 use Rattle.procedure_file.proofs.tables.fill_row.Statement.{statement}
 use Rattle.procedure_file.proofs.tables.fill_row.Tie as tie
 
@@ -12,79 +12,60 @@ Inv-loop file f at starts₀ handlers₀ row entry count labels place₀ l₀ st
 abbrev μ-loop : tie.MeasureT-loop
 μ-loop file f at starts₀ handlers₀ row entry count labels place₀ l₀ starts handlers place l = labels - l
 
--- src/tables.rt:34:15
 mul-row : tie.Need-mul-row Inv-loop μ-loop
 mul-row c = let r = (filling-room (c .before .before .before .args .file .now) (c .before .before .before .args .f) (c .before .before .before .args .at) (c .before .before .before .args .starts .now) (c .before .before .before .args .handlers .now) (c .before .before .before .pre)) in omega (arith, r .0)
 
--- src/tables.rt:35:17
 add-entry : tie.Need-add-entry Inv-loop μ-loop
 add-entry c = let r = (filling-room (c .before .before .before .args .file .now) (c .before .before .before .args .f) (c .before .before .before .args .at) (c .before .before .before .args .starts .now) (c .before .before .before .args .handlers .now) (c .before .before .before .pre)) in omega (arith, r .1, r .2)
 
--- src/tables.rt:36:17
 add-count : tie.Need-add-count Inv-loop μ-loop
 add-count c = let r = (filling-room (c .before .before .before .args .file .now) (c .before .before .before .args .f) (c .before .before .before .args .at) (c .before .before .before .args .starts .now) (c .before .before .before .args .handlers .now) (c .before .before .before .pre)) in omega (arith, r .1, r .2)
 
--- src/tables.rt:37:18
 shared-slice-read-labels : tie.Need-shared-slice-read-labels Inv-loop μ-loop
 shared-slice-read-labels c = let r = (filling-room (c .before .before .before .before .args .file .now) (c .before .before .before .before .args .f) (c .before .before .before .before .args .at) (c .before .before .before .before .args .starts .now) (c .before .before .before .before .args .handlers .now) (c .before .before .before .before .pre)) in omega (arith, r .1)
 
--- src/tables.rt:37:18
 cast-labels : tie.Need-cast-labels Inv-loop μ-loop
 cast-labels c = omega (arith, c .shared-slice-known2 .given (c .before .before .before .before .args .at + 2))
 
--- src/tables.rt:38:5
 put-block-requires : tie.Need-put-block-requires Inv-loop μ-loop
 put-block-requires c κs = let r = (filling-room (c .before .before .before .before .before .before .args .file .now) (c .before .before .before .before .before .before .args .f) (c .before .before .before .before .before .before .args .at) (c .before .before .before .before .before .before .args .starts .now) (c .before .before .before .before .before .before .args .handlers .now) (c .before .before .before .before .before .before .pre)) in (omega (arith, r .0, c .before .before .before .before .before .before .pre .startsLong), omega (arith, r .0, c .before .before .before .before .before .before .pre .handlersLong), omega (arith, r .1, r .2))
 
--- src/tables.rt:39:9
 block-past-requires : tie.Need-block-past-requires Inv-loop μ-loop
 block-past-requires c κs = tt
 
--- src/tables.rt:41:5
 loop-holds : tie.Need-loop-holds Inv-loop μ-loop
 loop-holds c = row-starts (c .before .before .before .before .before .before .before .before .before .before .before .before .args .file .now) (c .before .before .before .before .before .before .before .before .before .before .before .before .args .f) (c .before .before .before .before .before .before .before .before .before .before .before .before .args .at) (c .before .before .before .before .before .before .before .before .before .before .before .before .args .starts .now) (c .before .before .before .before .before .before .before .before .before .before .before .before .args .handlers .now) (c .before .before .before .before .before .before .before .before .before .before .before .before .pre) _ _ _ (c .before .before .before .before .before .put-block .ensures .0) (c .before .before .before .before .before .put-block .ensures .1) (c .block-past .ensures)
 
--- src/tables.rt:42:9
 add-l : tie.Need-add-l Inv-loop μ-loop
 add-l c = let r = (row-room _ _ _ _ _ _ _ (c .before .loop .inv) (c .loop-test .taken)) in omega (arith, r .0)
 
--- src/tables.rt:43:20
 add-slot : tie.Need-add-slot Inv-loop μ-loop
 add-slot c = let r = (row-room _ _ _ _ _ _ _ (c .before .loop .inv) (c .loop-test .taken)) in omega (arith, r .0)
 
--- src/tables.rt:44:21
 add-start : tie.Need-add-start Inv-loop μ-loop
 add-start c = let r = (row-room _ _ _ _ _ _ _ (c .before .loop .inv) (c .loop-test .taken)) in omega (arith, r .1, r .2)
 
--- src/tables.rt:45:23
 shared-slice-read-handler : tie.Need-shared-slice-read-handler Inv-loop μ-loop
 shared-slice-read-handler c = let r = (row-room _ _ _ _ _ _ _ (c .before .before .loop .inv) (c .before .loop-test .taken)) in r .1
 
--- src/tables.rt:46:9
 put-block-requires-2 : tie.Need-put-block-requires-2 Inv-loop μ-loop
 put-block-requires-2 c κs = let r = (row-room _ _ _ _ _ _ _ (c .before .before .before .before .loop .inv) (c .before .before .before .loop-test .taken)) in (omega (arith, r .0, c .before .before .before .before .loop .inv .startsLong), omega (arith, r .0, c .before .before .before .before .loop .inv .handlersLong), omega (arith, r .1, r .2))
 
--- src/tables.rt:47:9
 block-past-requires-2 : tie.Need-block-past-requires-2 Inv-loop μ-loop
 block-past-requires-2 c κs = tt
 
--- src/tables.rt:41:5
 loop-less : tie.Need-loop-less Inv-loop μ-loop
 loop-less c = search needs
 
--- src/tables.rt:41:5
 loop-again : tie.Need-loop-again Inv-loop μ-loop
 loop-again c = row-turns _ _ _ _ _ _ _ (c .before .before .before .before .before .before .before .before .before .before .loop .inv) (c .before .before .before .before .before .before .before .before .before .loop-test .taken) _ _ _ (c .before .before .before .before .before .put-block2 .ensures .0) (c .before .before .before .before .before .put-block2 .ensures .1) (c .block-past2 .ensures)
 
--- src/tables.rt:30:1
 same-length : tie.Need-same-length Inv-loop μ-loop
 same-length c = c .before .loop .inv .startsLong ∙ sym (c .before .before .before .before .before .before .before .before .before .before .before .before .before .before .pre .startsLong)
 
--- src/tables.rt:30:1
 same-length-2 : tie.Need-same-length-2 Inv-loop μ-loop
 same-length-2 c = c .before .loop .inv .handlersLong ∙ sym (c .before .before .before .before .before .before .before .before .before .before .before .before .before .before .pre .handlersLong)
 
--- src/tables.rt:30:1
 returns : tie.Need-returns Inv-loop μ-loop
 returns c = row-full _ _ _ _ _ _ _ (c .before .loop .inv) (c .loop-test .left)
 

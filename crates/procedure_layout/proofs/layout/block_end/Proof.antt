@@ -16,43 +16,33 @@ Inv-loop file start at₀ at = pastOf (block file at) ≡ pastOf (block file sta
 abbrev μ-loop : tie.MeasureT-loop
 μ-loop file start at₀ at = length file - at
 
--- src/layout.rt:64:5
 loop-holds : tie.Need-loop-holds Inv-loop μ-loop
 loop-holds c = refl
 
--- src/layout.rt:65:24
 operation-at-requires : tie.Need-operation-at-requires Inv-loop μ-loop
 operation-at-requires c κs = tt
 
--- src/layout.rt:65:15
 after-of-requires : tie.Need-after-of-requires Inv-loop μ-loop
 after-of-requires c κs = search needs
 
--- src/layout.rt:66:27
 enum-known-next : tie.Need-enum-known-next Inv-loop μ-loop
 enum-known-next c = search needs
 
--- src/layout.rt:64:5
 loop-less : tie.Need-loop-less Inv-loop μ-loop
 loop-less c = let m = onward-moves (c .before .before .before .before .before .before .before .args .file .now) (c .before .before .before .before .before .loop .at) (c .before .next .given .0 .0) (ap afterOf (sym (c .before .before .before .before .operation-at .ensures)) ∙ sym (c .before .before .before .after-of .ensures) ∙ c .before .next .given .1) in omega (arith, m .0, m .1)
 
--- src/layout.rt:64:5
 loop-again : tie.Need-loop-again Inv-loop μ-loop
 loop-again c = sym (block-onward (c .before .before .before .before .before .before .before .args .file .now) (c .before .before .before .before .before .loop .at) (c .before .next .given .0 .0) (ap afterOf (sym (c .before .before .before .before .operation-at .ensures)) ∙ sym (c .before .before .before .after-of .ensures) ∙ c .before .next .given .1)) ∙ c .before .before .before .before .before .loop .inv
 
--- src/layout.rt:69:26
 enum-known-next-2 : tie.Need-enum-known-next-2 Inv-loop μ-loop
 enum-known-next-2 c = search needs
 
--- src/layout.rt:70:17
 returns : tie.Need-returns Inv-loop μ-loop
 returns c = sym (block-ended (c .before .before .before .before .before .before .before .args .file .now) (c .before .before .before .before .before .loop .at) (c .before .next2 .given .0 .0) (ap afterOf (sym (c .before .before .before .before .operation-at .ensures)) ∙ sym (c .before .before .before .after-of .ensures) ∙ c .before .next2 .given .1)) ∙ c .before .before .before .before .before .loop .inv
 
--- src/layout.rt:72:27
 enum-known-r : tie.Need-enum-known-r Inv-loop μ-loop
 enum-known-r c = search needs
 
--- src/layout.rt:73:17
 returns-2 : tie.Need-returns-2 Inv-loop μ-loop
 returns-2 c = sym (block-halted (c .before .before .before .before .before .before .before .args .file .now) (c .before .before .before .before .before .loop .at) (c .before .r .given .0 .0) (ap afterOf (sym (c .before .before .before .before .operation-at .ensures)) ∙ sym (c .before .before .before .after-of .ensures) ∙ c .before .r .given .1)) ∙ c .before .before .before .before .before .loop .inv
 

@@ -1,9 +1,8 @@
 use Rattle.procedure_layout.specs.Layout.{function}
-use Rattle.procedure_layout.specs.Layout.{labelled}
 use Rattle.parsing.specs.ParserLaws.{many-turn, many-halt, many-last}
 use Rattle.parsing.specs.Parser.{pastOf, many}
 use borrow.Author.Needs.{needs}
-use mathlib.Core.Path.{_≡_, refl, sym, ap, _∙_}
+use mathlib.Core.Path.{_≡_, refl, sym, _∙_}
 use Rattle.procedure_layout.proofs.layout.functions_end.Statement.{statement}
 use Rattle.procedure_layout.proofs.layout.functions_end.Tie as tie
 
@@ -13,39 +12,30 @@ Inv-loop file start n at₀ left₀ at left = pastOf (many left function file at
 abbrev μ-loop : tie.MeasureT-loop
 μ-loop file start n at₀ left₀ at left = left
 
--- src/layout.rt:98:5
 loop-holds : tie.Need-loop-holds Inv-loop μ-loop
 loop-holds c = refl
 
--- src/layout.rt:99:9
 sub-left : tie.Need-sub-left Inv-loop μ-loop
 sub-left c = search needs
 
--- src/layout.rt:100:15
 function-end-requires : tie.Need-function-end-requires Inv-loop μ-loop
 function-end-requires c κs = tt
 
--- src/layout.rt:101:24
 enum-known-next : tie.Need-enum-known-next Inv-loop μ-loop
 enum-known-next c = search needs
 
--- src/layout.rt:98:5
 loop-less : tie.Need-loop-less Inv-loop μ-loop
 loop-less c = search needs
 
--- src/layout.rt:98:5
 loop-again : tie.Need-loop-again Inv-loop μ-loop
 loop-again c = many-turn function (c .before .before .before .before .before .before .before .args .file .now) (c .before .before .before .before .before .loop .left) (c .before .before .before .before .before .loop .at) (c .before .next .given .0 .0) (c .before .before .before .before .loop-test .taken) (sym (c .before .before .before .function-end .ensures) ∙ c .before .next .given .1) ∙ c .before .before .before .before .before .loop .inv
 
--- src/layout.rt:104:27
 enum-known-r : tie.Need-enum-known-r Inv-loop μ-loop
 enum-known-r c = search needs
 
--- src/layout.rt:105:17
 returns : tie.Need-returns Inv-loop μ-loop
 returns c = many-halt function (c .before .before .before .before .before .before .before .args .file .now) (c .before .before .before .before .before .loop .left) (c .before .before .before .before .before .loop .at) (c .before .r .given .0 .0) (c .before .before .before .before .loop-test .taken) (sym (c .before .before .before .function-end .ensures) ∙ c .before .r .given .1) ∙ c .before .before .before .before .before .loop .inv
 
--- src/layout.rt:93:1
 returns-2 : tie.Need-returns-2 Inv-loop μ-loop
 returns-2 c = many-last function (c .before .before .before .args .file .now) (c .before .loop .left) (c .before .loop .at) (c .loop-test .left) ∙ c .before .loop .inv
 

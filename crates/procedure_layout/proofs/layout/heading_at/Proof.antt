@@ -1,60 +1,47 @@
 use Rattle.procedure_layout.specs.LayoutLaws.{heading-1, heading-2, heading-3, count-inside}
 use Prim.Native.Nat.{_+_}
 use native.Mathlib.Omega.{arith}
-use mathlib.Core.Path.{_≡_, refl, sym, ap, _∙_}
+use mathlib.Core.Path.{sym, _∙_}
 use borrow.Author.Needs.{needs}
 use Rattle.procedure_layout.proofs.layout.heading_at.Statement.{statement}
 use Rattle.procedure_layout.proofs.layout.heading_at.Tie as tie
 
--- src/layout.rt:116:11
 count-at-requires : tie.Need-count-at-requires
 count-at-requires c κs = search needs
 
--- src/layout.rt:117:24
 enum-known-r : tie.Need-enum-known-r
 enum-known-r c = search needs
 
--- src/layout.rt:118:55
 enum-told : tie.Need-enum-told
 enum-told c = search needs
 
--- src/layout.rt:118:55
 add-count-at : tie.Need-add-count-at
 add-count-at c = omega (arith, count-inside 0 8 (c .before .before .before .before .args .file .now) (c .before .before .before .before .args .at) _ (sym (c .before .before .count-at .ensures) ∙ c .enum-told .given .1))
 
--- src/layout.rt:118:31
 count-at-requires-2 : tie.Need-count-at-requires-2
 count-at-requires-2 c κs = search needs
 
--- src/layout.rt:119:28
 enum-known-r-2 : tie.Need-enum-known-r-2
 enum-known-r-2 c = search needs
 
--- src/layout.rt:120:53
 enum-told-2 : tie.Need-enum-told-2
 enum-told-2 c = search needs
 
--- src/layout.rt:120:53
 add-count-at-2 : tie.Need-add-count-at-2
 add-count-at-2 c = omega (arith, count-inside 0 8 (c .before .before .before .before .before .before .before .args .file .now) (c .before .before .before .before .before .before .before .args .at) _ (sym (c .before .before .before .before .before .count-at .ensures) ∙ c .before .before .before .enum-told .given .1))
 
--- src/layout.rt:120:53
 add-count-at-3 : tie.Need-add-count-at-3
 add-count-at-3 c = omega (arith, count-inside 0 24 (c .before .before .before .before .before .before .before .args .file .now) (c .before .before .before .before .before .before .before .args .at + 1) _ (sym (c .before .before .count-at2 .ensures) ∙ c .enum-told2 .given .1))
 
--- src/layout.rt:120:29
 count-at-requires-3 : tie.Need-count-at-requires-3
 count-at-requires-3 c κs = search needs
 
--- src/layout.rt:113:1
 returns : tie.Need-returns
 returns c = sym (heading-1 _ _ _ (sym (c .before .before .before .count-at .ensures) ∙ c .before .r .given .1))
 
--- src/layout.rt:113:1
 returns-2 : tie.Need-returns-2
 returns-2 c = sym (heading-2 _ _ _ _ (sym (c .before .before .before .before .before .before .count-at .ensures) ∙ c .before .before .before .before .enum-told .given .1) (sym (c .before .before .before .count-at2 .ensures) ∙ c .before .r2 .given .1))
 
--- src/layout.rt:113:1
 returns-3 : tie.Need-returns-3
 returns-3 c = c .count-at3 .ensures ∙ sym (heading-3 _ _ _ _ (sym (c .before .before .before .before .before .before .count-at .ensures) ∙ c .before .before .before .before .enum-told .given .1) (sym (c .before .before .before .count-at2 .ensures) ∙ c .before .enum-told2 .given .1))
 

@@ -1,22 +1,18 @@
 use Rattle.procedure_layout.specs.LayoutLaws.{labelled-cut, labelled-in}
-use mathlib.Core.Path.{_≡_, refl, sym, ap, _∙_}
+use mathlib.Core.Path.{sym, _∙_}
 use borrow.Author.Needs.{needs}
 use Rattle.procedure_layout.proofs.layout.labelled_end.Statement.{statement}
 use Rattle.procedure_layout.proofs.layout.labelled_end.Tie as tie
 
--- src/layout.rt:84:9
 returns : tie.Need-returns
 returns c = sym (labelled-cut _ _ (c .if1 .taken))
 
--- src/layout.rt:89:21
 add-block-end : tie.Need-add-block-end
 add-block-end c = search needs
 
--- src/layout.rt:89:5
 block-end-requires : tie.Need-block-end-requires
 block-end-requires c κs = search needs
 
--- src/layout.rt:80:1
 returns-2 : tie.Need-returns-2
 returns-2 c = c .block-end .ensures ∙ sym (labelled-in _ _ (c .before .if1 .left))
 

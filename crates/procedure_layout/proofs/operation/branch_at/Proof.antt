@@ -1,55 +1,43 @@
 use Rattle.procedure_layout.specs.OperationLaws.{branch-cut, branch-in}
 use native.Mathlib.Omega.{arith}
-use mathlib.Core.Path.{_∙_, sym, ap}
+use mathlib.Core.Path.{_∙_, sym}
 use borrow.Author.Needs.{needs}
 use Rattle.procedure_layout.proofs.operation.branch_at.Statement.{statement}
 use Rattle.procedure_layout.proofs.operation.branch_at.Tie as tie
 
--- src/operation.rt:132:16
 add-next : tie.Need-add-next
 add-next c = search needs
 
--- src/operation.rt:134:9
 cut-requires : tie.Need-cut-requires
 cut-requires c κs = search needs
 
--- src/operation.rt:134:9
 returns : tie.Need-returns
 returns c = c .cut .ensures ∙ sym (branch-cut (c .before .before .before .args .file .now) (c .before .before .before .args .at) (c .before .if1 .taken))
 
--- src/operation.rt:137:20
 add-t4 : tie.Need-add-t4
 add-t4 c = search needs
 
--- src/operation.rt:137:15
 shared-slice-read-t7 : tie.Need-shared-slice-read-t7
 shared-slice-read-t7 c = search needs
 
--- src/operation.rt:138:21
 add-t8 : tie.Need-add-t8
 add-t8 c = search needs
 
--- src/operation.rt:138:16
 shared-slice-read-t10 : tie.Need-shared-slice-read-t10
 shared-slice-read-t10 c = search needs
 
--- src/operation.rt:139:21
 add-t11 : tie.Need-add-t11
 add-t11 c = search needs
 
--- src/operation.rt:139:16
 shared-slice-read-t13 : tie.Need-shared-slice-read-t13
 shared-slice-read-t13 c = search needs
 
--- src/operation.rt:140:21
 add-t14 : tie.Need-add-t14
 add-t14 c = search needs
 
--- src/operation.rt:140:16
 shared-slice-read-t16 : tie.Need-shared-slice-read-t16
 shared-slice-read-t16 c = search needs
 
--- src/operation.rt:128:1
 returns-2 : tie.Need-returns-2
 returns-2 c = sym (branch-in (c .before .before .before .before .before .before .args .file .now) (c .before .before .before .before .before .before .args .at) (omega arith))
 

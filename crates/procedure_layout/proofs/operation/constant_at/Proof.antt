@@ -1,9 +1,7 @@
 use Rattle.procedure_layout.specs.OperationLaws.{constant-cut, constant-in}
-use lib.IntN.{ℤ}
 use lib.ListN.{getD}
 use Prim.Native.Nat.{_+_}
 use Rattle.procedure_layout.specs.declared.operation.Operation.the-variants.{Constant}
-use Rattle.parsing.specs.Fields.{valueAt}
 use mir.Facts.{toZ-ofZ}
 use native.Mathlib.Omega.{arith}
 use mathlib.Core.Path.{_∙_, sym, ap}
@@ -11,63 +9,48 @@ use borrow.Author.Needs.{needs}
 use Rattle.procedure_layout.proofs.operation.constant_at.Statement.{statement}
 use Rattle.procedure_layout.proofs.operation.constant_at.Tie as tie
 
--- src/operation.rt:34:16
 add-next : tie.Need-add-next
 add-next c = search needs
 
--- src/operation.rt:36:9
 cut-requires : tie.Need-cut-requires
 cut-requires c κs = search needs
 
--- src/operation.rt:36:9
 returns : tie.Need-returns
 returns c = c .cut .ensures ∙ sym (constant-cut (c .before .before .before .args .file .now) (c .before .before .before .args .at) (c .before .if1 .taken))
 
--- src/operation.rt:38:13
 add-x : tie.Need-add-x
 add-x c = search needs
 
--- src/operation.rt:39:13
 add-i : tie.Need-add-i
 add-i c = search needs
 
--- src/operation.rt:40:32
 shared-slice-read-value : tie.Need-shared-slice-read-value
 shared-slice-read-value c = search needs
 
--- src/operation.rt:40:46
 add-value : tie.Need-add-value
 add-value c = search needs
 
--- src/operation.rt:40:41
 shared-slice-read-value-2 : tie.Need-shared-slice-read-value-2
 shared-slice-read-value-2 c = search needs
 
--- src/operation.rt:40:59
 add-value-2 : tie.Need-add-value-2
 add-value-2 c = search needs
 
--- src/operation.rt:40:54
 shared-slice-read-value-3 : tie.Need-shared-slice-read-value-3
 shared-slice-read-value-3 c = search needs
 
--- src/operation.rt:40:72
 add-value-3 : tie.Need-add-value-3
 add-value-3 c = search needs
 
--- src/operation.rt:40:67
 shared-slice-read-value-4 : tie.Need-shared-slice-read-value-4
 shared-slice-read-value-4 c = search needs
 
--- src/operation.rt:40:9
 value-requires : tie.Need-value-requires
 value-requires c κs = search needs
 
--- src/operation.rt:42:17
 shared-slice-read-t10 : tie.Need-shared-slice-read-t10
 shared-slice-read-t10 c = search needs
 
--- src/operation.rt:30:1
 returns-2 : tie.Need-returns-2
 returns-2 c = ap (λ v. Constant (getD (c .before .before .before .before .before .before .before .before .args .file .now) (c .before .before .before .before .before .before .before .before .args .at + 1) 0) v (c .before .before .before .before .before .before .before .before .args .at + 6)) (toZ-ofZ (record { sfits = c .before .value .ok }) ∙ c .before .value .ensures) ∙ sym (constant-in (c .before .before .before .before .before .before .before .before .args .file .now) (c .before .before .before .before .before .before .before .before .args .at) (omega arith))
 

@@ -1,47 +1,37 @@
 use Rattle.procedure_layout.specs.OperationLaws.{difference-cut, difference-in}
 use native.Mathlib.Omega.{arith}
-use mathlib.Core.Path.{_∙_, sym, ap}
+use mathlib.Core.Path.{_∙_, sym}
 use borrow.Author.Needs.{needs}
 use Rattle.procedure_layout.proofs.operation.difference_at.Statement.{statement}
 use Rattle.procedure_layout.proofs.operation.difference_at.Tie as tie
 
--- src/operation.rt:67:16
 add-next : tie.Need-add-next
 add-next c = search needs
 
--- src/operation.rt:69:9
 cut-requires : tie.Need-cut-requires
 cut-requires c κs = search needs
 
--- src/operation.rt:69:9
 returns : tie.Need-returns
 returns c = c .cut .ensures ∙ sym (difference-cut (c .before .before .before .args .file .now) (c .before .before .before .args .at) (c .before .if1 .taken))
 
--- src/operation.rt:72:22
 add-t4 : tie.Need-add-t4
 add-t4 c = search needs
 
--- src/operation.rt:72:17
 shared-slice-read-t7 : tie.Need-shared-slice-read-t7
 shared-slice-read-t7 c = search needs
 
--- src/operation.rt:73:20
 add-t8 : tie.Need-add-t8
 add-t8 c = search needs
 
--- src/operation.rt:73:15
 shared-slice-read-t10 : tie.Need-shared-slice-read-t10
 shared-slice-read-t10 c = search needs
 
--- src/operation.rt:74:21
 add-t11 : tie.Need-add-t11
 add-t11 c = search needs
 
--- src/operation.rt:74:16
 shared-slice-read-t13 : tie.Need-shared-slice-read-t13
 shared-slice-read-t13 c = search needs
 
--- src/operation.rt:63:1
 returns-2 : tie.Need-returns-2
 returns-2 c = sym (difference-in (c .before .before .before .before .before .args .file .now) (c .before .before .before .before .before .args .at) (omega arith))
 

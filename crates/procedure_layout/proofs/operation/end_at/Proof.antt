@@ -1,42 +1,33 @@
 use Rattle.procedure_layout.specs.OperationLaws.{end-5, end-6, end-7, end-8, end-unknown}
-use mathlib.Core.Path.{_∙_, sym, ap}
+use mathlib.Core.Path.{_∙_, sym}
 use borrow.Author.Needs.{needs}
 use Rattle.procedure_layout.proofs.operation.end_at.Statement.{statement}
 use Rattle.procedure_layout.proofs.operation.end_at.Tie as tie
 
--- src/operation.rt:151:14
 goto-at-requires : tie.Need-goto-at-requires
 goto-at-requires c κs = search needs
 
--- src/operation.rt:152:14
 return-at-requires : tie.Need-return-at-requires
 return-at-requires c κs = search needs
 
--- src/operation.rt:153:14
 branch-at-requires : tie.Need-branch-at-requires
 branch-at-requires c κs = search needs
 
--- src/operation.rt:154:39
 add-t5 : tie.Need-add-t5
 add-t5 c = search needs
 
--- src/operation.rt:146:1
 returns : tie.Need-returns
 returns c = c .goto-at .ensures ∙ sym (end-5 _ _ _ (c .before .match .keys1))
 
--- src/operation.rt:146:1
 returns-2 : tie.Need-returns-2
 returns-2 c = c .return-at .ensures ∙ sym (end-6 _ _ _ (c .before .match .keys2))
 
--- src/operation.rt:146:1
 returns-3 : tie.Need-returns-3
 returns-3 c = c .branch-at .ensures ∙ sym (end-7 _ _ _ (c .before .match .keys3))
 
--- src/operation.rt:146:1
 returns-4 : tie.Need-returns-4
 returns-4 c = sym (end-8 _ _ _ (c .match .keys4))
 
--- src/operation.rt:146:1
 returns-5 : tie.Need-returns-5
 returns-5 c = let r = c .match .rest in sym (end-unknown _ _ _ (r .0 .0 .0 .1) (r .0 .0 .1) (r .0 .1) (r .1))
 

@@ -1,67 +1,52 @@
 use Rattle.procedure_layout.specs.OperationLaws.{operation-past, operation-1, operation-2, operation-3, operation-4, operation-end, operation-unknown}
 use native.Mathlib.Omega.{arith}
-use mathlib.Core.Path.{_∙_, sym, ap}
+use mathlib.Core.Path.{_∙_, sym}
 use borrow.Author.Needs.{needs}
 use Rattle.procedure_layout.proofs.operation.operation_at.Statement.{statement}
 use Rattle.procedure_layout.proofs.operation.operation_at.Tie as tie
 
--- src/operation.rt:167:9
 cut-requires : tie.Need-cut-requires
 cut-requires c κs = search needs
 
--- src/operation.rt:167:9
 returns : tie.Need-returns
 returns c = c .cut .ensures ∙ sym (operation-past _ _ (c .before .if1 .taken))
 
--- src/operation.rt:169:18
 shared-slice-read-number : tie.Need-shared-slice-read-number
 shared-slice-read-number c = search needs
 
--- src/operation.rt:171:14
 constant-at-requires : tie.Need-constant-at-requires
 constant-at-requires c κs = search needs
 
--- src/operation.rt:172:14
 copy-at-requires : tie.Need-copy-at-requires
 copy-at-requires c κs = search needs
 
--- src/operation.rt:173:14
 difference-at-requires : tie.Need-difference-at-requires
 difference-at-requires c κs = search needs
 
--- src/operation.rt:174:14
 call-at-requires : tie.Need-call-at-requires
 call-at-requires c κs = search needs
 
--- src/operation.rt:175:18
 end-at-requires : tie.Need-end-at-requires
 end-at-requires c κs = search needs
 
--- src/operation.rt:163:1
 returns-2 : tie.Need-returns-2
 returns-2 c = c .constant-at .ensures ∙ sym (operation-1 _ _ (omega arith) (c .before .match .keys1))
 
--- src/operation.rt:163:1
 returns-3 : tie.Need-returns-3
 returns-3 c = c .copy-at .ensures ∙ sym (operation-2 _ _ (omega arith) (c .before .match .keys2))
 
--- src/operation.rt:163:1
 returns-4 : tie.Need-returns-4
 returns-4 c = c .difference-at .ensures ∙ sym (operation-3 _ _ (omega arith) (c .before .match .keys3))
 
--- src/operation.rt:163:1
 returns-5 : tie.Need-returns-5
 returns-5 c = c .call-at .ensures ∙ sym (operation-4 _ _ (omega arith) (c .before .match .keys4))
 
--- src/operation.rt:163:1
 returns-6 : tie.Need-returns-6
 returns-6 c = let r = c .before .before .before .match .rest in c .end-at .ensures ∙ sym (operation-end _ _ (omega arith) (r .0 .0 .0 .1) (r .0 .0 .1) (r .0 .1) (r .1))
 
--- src/operation.rt:163:1
 returns-7 : tie.Need-returns-7
 returns-7 c = let r = c .before .match .rest in sym (operation-unknown (c .before .before .before .before .before .args .file .now) (c .before .before .before .before .before .args .at) (omega arith) (r .0 .0 .0 .1) (r .0 .0 .1) (r .0 .1) (r .1) (λ e. omega arith) (λ e. omega arith) (λ e. omega arith) (λ e. omega arith))
 
--- src/operation.rt:163:1
 returns-8 : tie.Need-returns-8
 returns-8 c = let r = c .before .before .match .rest in sym (operation-unknown (c .before .before .before .before .before .before .args .file .now) (c .before .before .before .before .before .before .args .at) (omega arith) (r .0 .0 .0 .1) (r .0 .0 .1) (r .0 .1) (r .1) (λ e. omega arith) (λ e. omega arith) (λ e. omega arith) (λ e. omega arith))
 

@@ -3,7 +3,7 @@ use lib.ListN.{length}
 use Prim.Native.Nat.{_+_, _-_, _≤_}
 use native.Mathlib.Omega.{arith}
 use borrow.Author.Needs.{needs}
-use mathlib.Core.Path.{_≡_, refl, sym, ap, _∙_}
+use mathlib.Core.Path.{_≡_, refl, sym, _∙_}
 use Rattle.procedure_names.proofs.names.arguments_named.Statement.{statement}
 use Rattle.procedure_names.proofs.names.arguments_named.Tie as tie
 
@@ -13,51 +13,39 @@ Inv-loop file at count variables place₀ end place = (room : at + 4 + count ≤
 abbrev μ-loop : tie.MeasureT-loop
 μ-loop file at count variables place₀ end place = end - place
 
--- src/names.rt:125:21
 add-place : tie.Need-add-place Inv-loop μ-loop
 add-place c = search needs
 
--- src/names.rt:126:15
 add-end : tie.Need-add-end Inv-loop μ-loop
 add-end c = search needs
 
--- src/names.rt:127:5
 loop-holds : tie.Need-loop-holds Inv-loop μ-loop
 loop-holds c = (c .before .pre, omega arith, refl, refl)
 
--- src/names.rt:128:31
 shared-slice-read-variable-number : tie.Need-shared-slice-read-variable-number Inv-loop μ-loop
 shared-slice-read-variable-number c = search needs
 
--- src/names.rt:128:15
 variable-number-requires : tie.Need-variable-number-requires Inv-loop μ-loop
 variable-number-requires c κs = search needs
 
--- src/names.rt:130:17
 enum-told : tie.Need-enum-told Inv-loop μ-loop
 enum-told c = search needs
 
--- src/names.rt:130:17
 add-place-2 : tie.Need-add-place-2 Inv-loop μ-loop
 add-place-2 c = search needs
 
--- src/names.rt:127:5
 loop-less : tie.Need-loop-less Inv-loop μ-loop
 loop-less c = search needs
 
--- src/names.rt:127:5
 loop-again : tie.Need-loop-again Inv-loop μ-loop
 loop-again c = let i = c .before .before .before .before .before .loop .inv in (c .before .before .before .before .before .before .before .pre, omega (arith, i .1), i .2, argument-on (c .before .before .before .before .before .before .before .args .file .now) (c .before .before .before .before .before .before .before .args .variables) (c .before .before .before .before .before .before .before .args .at) (c .before .before .before .before .before .before .before .args .count) (c .before .before .before .before .before .before .before .pre) (c .before .before .before .before .before .loop .place) (i .1) (omega (arith, i .2, c .before .before .before .before .loop-test .taken)) (variable-is _ _ _ (sym (c .before .before .variable-number .ensures) ∙ c .enum-told .given .1)) ∙ i .3)
 
--- src/names.rt:133:41
 enum-told-2 : tie.Need-enum-told-2 Inv-loop μ-loop
 enum-told-2 c = search needs
 
--- src/names.rt:133:17
 returns : tie.Need-returns Inv-loop μ-loop
 returns c = let i = c .before .before .before .before .before .loop .inv in argument-wrong (c .before .before .before .before .before .before .before .args .file .now) (c .before .before .before .before .before .before .before .args .variables) (c .before .before .before .before .before .before .before .args .at) (c .before .before .before .before .before .before .before .args .count) (c .before .before .before .before .before .before .before .pre) (c .before .before .before .before .before .loop .place) (i .1) (omega (arith, i .2, c .before .before .before .before .loop-test .taken)) (variable-none _ _ (sym (c .before .before .variable-number .ensures) ∙ c .enum-told2 .given .1)) ∙ i .3 ∙ arguments-start (c .before .before .before .before .before .before .before .args .file .now) (c .before .before .before .before .before .before .before .args .variables) (c .before .before .before .before .before .before .before .args .at) (c .before .before .before .before .before .before .before .args .count) (c .before .before .before .before .before .before .before .pre)
 
--- src/names.rt:121:1
 returns-2 : tie.Need-returns-2 Inv-loop μ-loop
 returns-2 c = let i = c .before .loop .inv in arguments-done (c .before .before .before .args .file .now) (c .before .before .before .args .variables) (c .before .before .before .args .at) (c .before .before .before .args .count) (c .before .before .before .pre) (c .before .loop .place) (omega (arith, i .2, c .loop-test .left)) ∙ i .3 ∙ arguments-start (c .before .before .before .args .file .now) (c .before .before .before .args .variables) (c .before .before .before .args .at) (c .before .before .before .args .count) (c .before .before .before .pre)
 

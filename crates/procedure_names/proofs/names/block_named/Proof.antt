@@ -15,58 +15,45 @@ Inv-loop file start params variables labels at₀ at = blockVerdict params varia
 abbrev μ-loop : tie.MeasureT-loop
 μ-loop file start params variables labels at₀ at = length file - at
 
--- src/names.rt:271:5
 loop-holds : tie.Need-loop-holds Inv-loop μ-loop
 loop-holds c = refl
 
--- src/names.rt:272:13
 operation-at-requires : tie.Need-operation-at-requires Inv-loop μ-loop
 operation-at-requires c κs = tt
 
--- src/names.rt:273:15
 operation-named-requires : tie.Need-operation-named-requires Inv-loop μ-loop
 operation-named-requires c κs = c .operation-at .ensures
 
--- src/names.rt:274:30
 enum-known-r : tie.Need-enum-known-r Inv-loop μ-loop
 enum-known-r c = search needs
 
--- src/names.rt:275:17
 returns : tie.Need-returns Inv-loop μ-loop
 returns c = turn-wrong (c .before .before .before .before .before .before .before .before .args .params .now) (c .before .before .before .before .before .before .before .before .args .variables) (c .before .before .before .before .before .before .before .before .args .labels) (c .before .before .before .before .before .before .before .before .args .file .now) (c .before .before .before .before .before .loop .at) (c .before .before .before .before .operation-at .result) (c .before .before .before .operation-named .result) (c .before .before .before .before .operation-at .ensures) (c .before .before .before .operation-named .ensures) (c .before .r .given .0 .0) (c .before .r .given .1) ∙ c .before .before .before .before .before .loop .inv
 
 enum-told : tie.Need-enum-told Inv-loop μ-loop
 enum-told c = search needs
 
--- src/names.rt:279:15
 after-of-requires : tie.Need-after-of-requires Inv-loop μ-loop
 after-of-requires c κs = search needs
 
--- src/names.rt:280:27
 enum-known-next : tie.Need-enum-known-next Inv-loop μ-loop
 enum-known-next c = search needs
 
--- src/names.rt:271:5
 loop-less : tie.Need-loop-less Inv-loop μ-loop
 loop-less c = let m = onward-moves (c .before .before .before .before .before .before .before .before .before .before .before .args .file .now) (c .before .before .before .before .before .before .before .before .loop .at) (c .before .next .given .0 .0) (ap afterOf (sym (c .before .before .before .before .before .before .before .operation-at .ensures)) ∙ sym (c .before .before .before .after-of .ensures) ∙ c .before .next .given .1) in omega (arith, m .0, m .1)
 
--- src/names.rt:271:5
 loop-again : tie.Need-loop-again Inv-loop μ-loop
 loop-again c = turn-on (c .before .before .before .before .before .before .before .before .before .before .before .args .params .now) (c .before .before .before .before .before .before .before .before .before .before .before .args .variables) (c .before .before .before .before .before .before .before .before .before .before .before .args .labels) (c .before .before .before .before .before .before .before .before .before .before .before .args .file .now) (c .before .before .before .before .before .before .before .before .loop .at) (c .before .before .before .before .before .before .before .operation-at .result) (c .before .before .before .before .before .before .operation-named .result) (c .before .before .before .before .before .before .before .operation-at .ensures) (c .before .before .before .before .before .before .operation-named .ensures) (c .before .next .given .0 .0) _ (c .before .before .before .before .enum-told .given .1) (c .before .before .before .after-of .ensures) (c .before .next .given .1) ∙ c .before .before .before .before .before .before .before .before .loop .inv
 
--- src/names.rt:284:17
 enum-told-2 : tie.Need-enum-told-2 Inv-loop μ-loop
 enum-told-2 c = search needs
 
--- src/names.rt:284:17
 returns-2 : tie.Need-returns-2 Inv-loop μ-loop
 returns-2 c = turn-last (c .before .before .before .before .before .before .before .before .before .before .args .params .now) (c .before .before .before .before .before .before .before .before .before .before .args .variables) (c .before .before .before .before .before .before .before .before .before .before .args .labels) (c .before .before .before .before .before .before .before .before .before .before .args .file .now) (c .before .before .before .before .before .before .before .loop .at) (c .before .before .before .before .before .before .operation-at .result) (c .before .before .before .before .before .operation-named .result) (c .before .before .before .before .before .before .operation-at .ensures) (c .before .before .before .before .before .operation-named .ensures) _ (c .before .before .before .enum-told .given .1) (c .before .before .after-of .ensures) (λ next w. not-ended _ _ next (c .enum-told2 .given .1) w) ∙ c .before .before .before .before .before .before .before .loop .inv
 
--- src/names.rt:287:17
 enum-told-3 : tie.Need-enum-told-3 Inv-loop μ-loop
 enum-told-3 c = search needs
 
--- src/names.rt:287:17
 returns-3 : tie.Need-returns-3 Inv-loop μ-loop
 returns-3 c = turn-last (c .before .before .before .before .before .before .before .before .before .before .args .params .now) (c .before .before .before .before .before .before .before .before .before .before .args .variables) (c .before .before .before .before .before .before .before .before .before .before .args .labels) (c .before .before .before .before .before .before .before .before .before .before .args .file .now) (c .before .before .before .before .before .before .before .loop .at) (c .before .before .before .before .before .before .operation-at .result) (c .before .before .before .before .before .operation-named .result) (c .before .before .before .before .before .before .operation-at .ensures) (c .before .before .before .before .before .operation-named .ensures) _ (c .before .before .before .enum-told .given .1) (c .before .before .after-of .ensures) (λ next w. not-halted _ _ next (c .enum-told3 .given .1) w) ∙ c .before .before .before .before .before .before .before .loop .inv
 

@@ -2,24 +2,19 @@ use Rattle.procedure_names.specs.NamedLaws.{join}
 use Rattle.procedure_names.specs.Names.{variable, label}
 use Prim.Native.Nat.{_+_}
 use mathlib.Core.List.{[], _∷_}
-use mathlib.Core.Path.{_≡_, refl, sym, ap, _∙_}
 use borrow.Author.Needs.{needs}
 use Rattle.procedure_names.proofs.names.branch_named.Statement.{statement}
 use Rattle.procedure_names.proofs.names.branch_named.Tie as tie
 
--- src/names.rt:203:9
 two-named-requires : tie.Need-two-named-requires
 two-named-requires c κs = search needs
 
--- src/names.rt:204:9
 labels-named-requires : tie.Need-labels-named-requires
 labels-named-requires c κs = search needs
 
--- src/names.rt:202:5
 or-else-requires : tie.Need-or-else-requires
 or-else-requires c κs = search needs
 
--- src/names.rt:198:1
 returns : tie.Need-returns
 returns c = let a = c .before .before .before .args in join (variable (a .variables) (a .at + 1) (a .y) ∷ variable (a .variables) (a .at + 2) (a .z) ∷ []) (label (a .labels) (a .at + 3) (a .l) ∷ label (a .labels) (a .at + 4) (a .m) ∷ []) _ _ _ (c .or-else .ensures) (c .before .before .two-named .ensures) (c .before .labels-named .ensures)
 

@@ -3,36 +3,28 @@ use Rattle.procedure_layout.specs.Layout.{argumentsAt}
 use Rattle.procedure_names.specs.Names.{variable, function, arity, arguments}
 use Prim.Native.Nat.{_+_}
 use mathlib.Core.List.{[], _∷_}
-use mathlib.Core.Path.{_≡_, refl, sym, ap, _∙_}
 use borrow.Author.Needs.{needs}
 use Rattle.procedure_names.proofs.names.call_named.Statement.{statement}
 use Rattle.procedure_names.proofs.names.call_named.Tie as tie
 
--- src/names.rt:191:47
 add-variable-named : tie.Need-add-variable-named
 add-variable-named c = search needs
 
--- src/names.rt:191:9
 variable-named-requires : tie.Need-variable-named-requires
 variable-named-requires c κs = search needs
 
--- src/names.rt:192:9
 callee-named-requires : tie.Need-callee-named-requires
 callee-named-requires c κs = search needs
 
--- src/names.rt:193:9
 arguments-named-requires : tie.Need-arguments-named-requires
 arguments-named-requires c κs = search needs
 
--- src/names.rt:194:16
 or-else-requires : tie.Need-or-else-requires
 or-else-requires c κs = search needs
 
--- src/names.rt:194:5
 or-else-requires-2 : tie.Need-or-else-requires-2
 or-else-requires-2 c κs = search needs
 
--- src/names.rt:179:1
 returns : tie.Need-returns
 returns c = let a = c .before .before .before .before .before .before .before .args in let ps = a .params .now in join (variable (a .variables) (a .at + 1) (a .target) ∷ []) (function ps (a .at + 2) (a .callee) ∷ arity ps (a .at + 3) (a .callee) (a .count) ∷ arguments (a .variables) (a .at + 4) (argumentsAt (a .file .now) (a .at) (a .count))) _ _ _ (c .or-else2 .ensures) (c .before .before .before .before .variable-named .ensures) (join (function ps (a .at + 2) (a .callee) ∷ arity ps (a .at + 3) (a .callee) (a .count) ∷ []) (arguments (a .variables) (a .at + 4) (argumentsAt (a .file .now) (a .at) (a .count))) _ _ _ (c .before .or-else .ensures) (c .before .before .before .callee-named .ensures) (c .before .before .arguments-named .ensures))
 

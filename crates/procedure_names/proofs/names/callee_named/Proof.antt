@@ -2,44 +2,35 @@ use Rattle.procedure_names.specs.NamedLaws.{function-is, function-none, 
 use lib.ListN.{length}
 use Prim.Native.Nat.{_+_}
 use native.Mathlib.Omega.{arith}
-use mathlib.Core.Path.{_≡_, refl, sym, ap, _∙_}
+use mathlib.Core.Path.{sym, _∙_}
 use borrow.Author.Needs.{needs}
 use Rattle.procedure_names.proofs.names.callee_named.Statement.{statement}
 use Rattle.procedure_names.proofs.names.callee_named.Tie as tie
 
--- src/names.rt:105:26
 add-function-place : tie.Need-add-function-place
 add-function-place c = search needs
 
--- src/names.rt:106:23
 add-count-place : tie.Need-add-count-place
 add-count-place c = search needs
 
--- src/names.rt:107:11
 function-number-requires : tie.Need-function-number-requires
 function-number-requires c κs = search needs
 
--- src/names.rt:108:55
 enum-told : tie.Need-enum-told
 enum-told c = search needs
 
--- src/names.rt:112:33
 enum-known-callee : tie.Need-enum-known-callee
 enum-known-callee c = search needs
 
--- src/names.rt:113:16
 arity-of-requires : tie.Need-arity-of-requires
 arity-of-requires c κs = let f = (function-is (c .before .before .before .before .before .args .g) (length (c .before .before .before .before .before .args .params .now)) (c .before .callee .given .0 .0) (sym (c .before .before .before .function-number .ensures) ∙ c .before .callee .given .1)) in omega (arith, f .0, f .1)
 
--- src/names.rt:101:1
 returns : tie.Need-returns
 returns c = callee-none (c .before .before .before .before .args .params .now) (c .before .before .before .before .args .at + 2) (c .before .before .before .before .args .at + 3) (c .before .before .before .before .args .g) (c .before .before .before .before .args .count) (function-none (c .before .before .before .before .args .g) (length (c .before .before .before .before .args .params .now)) (sym (c .before .before .function-number .ensures) ∙ c .enum-told .given .1))
 
--- src/names.rt:101:1
 returns-2 : tie.Need-returns-2
 returns-2 c = callee-right (c .before .before .before .before .before .before .before .args .params .now) (c .before .before .before .before .before .before .before .args .at + 2) (c .before .before .before .before .before .before .before .args .at + 3) (c .before .before .before .before .before .before .before .args .g) (c .before .before .before .before .before .before .before .args .count) _ _ (function-is (c .before .before .before .before .before .before .before .args .g) (length (c .before .before .before .before .before .before .before .args .params .now)) (c .before .before .before .callee .given .0 .0) (sym (c .before .before .before .before .before .function-number .ensures) ∙ c .before .before .before .callee .given .1)) (c .before .arity-of .ensures) (c .if1 .taken)
 
--- src/names.rt:101:1
 returns-3 : tie.Need-returns-3
 returns-3 c = callee-wrong (c .before .before .before .before .before .before .before .args .params .now) (c .before .before .before .before .before .before .before .args .at + 2) (c .before .before .before .before .before .before .before .args .at + 3) (c .before .before .before .before .before .before .before .args .g) (c .before .before .before .before .before .before .before .args .count) _ _ (function-is (c .before .before .before .before .before .before .before .args .g) (length (c .before .before .before .before .before .before .before .args .params .now)) (c .before .before .before .callee .given .0 .0) (sym (c .before .before .before .before .before .function-number .ensures) ∙ c .before .before .before .callee .given .1)) (c .before .arity-of .ensures) (c .if1 .left)
 

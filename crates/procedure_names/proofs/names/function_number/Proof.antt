@@ -3,12 +3,10 @@ use Rattle.parsing.proofs.Cases.{cases}
 use Rattle.procedure_names.proofs.names.function_number.Statement.{statement}
 use Rattle.procedure_names.proofs.names.function_number.Tie as tie
 
--- src/names.rt:38:1
 returns : tie.Need-returns
 unfolding functionFound
 returns c = search cases
 
--- src/names.rt:38:1
 returns-2 : tie.Need-returns-2
 unfolding functionFound
 returns-2 c = search cases

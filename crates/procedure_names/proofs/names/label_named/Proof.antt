@@ -2,15 +2,12 @@ use Rattle.procedure_names.specs.NamedLaws.{label-zero, label-right, lab
 use Rattle.procedure_names.proofs.names.label_named.Statement.{statement}
 use Rattle.procedure_names.proofs.names.label_named.Tie as tie
 
--- src/names.rt:82:9
 returns : tie.Need-returns
 returns c = label-zero _ _ _ (c .if1 .taken)
 
--- src/names.rt:78:1
 returns-2 : tie.Need-returns-2
 returns-2 c = label-right _ _ _ (c .before .if1 .left) (c .if2 .taken)
 
--- src/names.rt:78:1
 returns-3 : tie.Need-returns-3
 returns-3 c = label-wrong _ _ _ (c .before .if1 .left) (c .if2 .left)
 

@@ -2,32 +2,25 @@ use Rattle.procedure_names.specs.NamedLaws.{join}
 use Rattle.procedure_names.specs.Names.{label}
 use Prim.Native.Nat.{_+_}
 use mathlib.Core.List.{[], _∷_}
-use mathlib.Core.Path.{_≡_, refl, sym, ap, _∙_}
 use borrow.Author.Needs.{needs}
 use Rattle.procedure_names.proofs.names.labels_named.Statement.{statement}
 use Rattle.procedure_names.proofs.names.labels_named.Tie as tie
 
--- src/names.rt:173:32
 add-label-named : tie.Need-add-label-named
 add-label-named c = search needs
 
--- src/names.rt:173:9
 label-named-requires : tie.Need-label-named-requires
 label-named-requires c κs = search needs
 
--- src/names.rt:174:32
 add-label-named-2 : tie.Need-add-label-named-2
 add-label-named-2 c = search needs
 
--- src/names.rt:174:9
 label-named-requires-2 : tie.Need-label-named-requires-2
 label-named-requires-2 c κs = search needs
 
--- src/names.rt:172:5
 or-else-requires : tie.Need-or-else-requires
 or-else-requires c κs = search needs
 
--- src/names.rt:168:1
 returns : tie.Need-returns
 returns c = let a = c .before .before .before .args in join (label (a .labels) (a .at + 3) (a .l) ∷ []) (label (a .labels) (a .at + 4) (a .m) ∷ []) _ _ _ (c .or-else .ensures) (c .before .before .label-named .ensures) (c .before .label-named2 .ensures)
 

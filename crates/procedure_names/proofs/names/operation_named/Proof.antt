@@ -1,123 +1,93 @@
 use Rattle.procedure_names.specs.NamedLaws.{by-form, past-names, call-room}
-use native.Mathlib.Omega.{arith}
-use mathlib.Core.Path.{_≡_, refl, sym, ap, _∙_}
+use mathlib.Core.Path.{refl, sym, _∙_}
 use borrow.Author.Needs.{needs}
 use Rattle.procedure_names.proofs.names.operation_named.Statement.{statement}
 use Rattle.procedure_names.proofs.names.operation_named.Tie as tie
 
--- src/names.rt:221:9
 returns : tie.Need-returns
 returns c = by-form (c .before .before .before .args .params .now) (c .before .before .before .args .variables) (c .before .before .before .args .labels) (c .before .before .before .args .file .now) (c .before .before .before .args .at) (c .before .before .before .args .o) _ _ (c .before .before .before .pre) (past-names (c .before .before .before .args .params .now) (c .before .before .before .args .variables) (c .before .before .before .args .labels) (c .before .before .before .args .file .now) (c .before .before .before .args .at) (c .if1 .taken))
 
--- src/names.rt:225:13
 enum-known-o : tie.Need-enum-known-o
 enum-known-o c = search needs
 
--- src/names.rt:228:48
 add-variable-named : tie.Need-add-variable-named
 add-variable-named c = search needs
 
--- src/names.rt:228:14
 variable-named-requires : tie.Need-variable-named-requires
 variable-named-requires c κs = search needs
 
--- src/names.rt:230:13
 enum-known-o-2 : tie.Need-enum-known-o-2
 enum-known-o-2 c = search needs
 
--- src/names.rt:233:14
 two-named-requires : tie.Need-two-named-requires
 two-named-requires c κs = search needs
 
--- src/names.rt:235:13
 enum-known-o-3 : tie.Need-enum-known-o-3
 enum-known-o-3 c = search needs
 
--- src/names.rt:239:14
 three-named-requires : tie.Need-three-named-requires
 three-named-requires c κs = search needs
 
--- src/names.rt:241:13
 enum-known-o-4 : tie.Need-enum-known-o-4
 enum-known-o-4 c = search needs
 
--- src/names.rt:245:14
 call-named-requires : tie.Need-call-named-requires
 call-named-requires c κs = call-room (c .before .before .before .before .before .before .args .file .now) (c .before .before .before .before .before .before .args .at) _ _ _ _ (sym (c .before .before .before .before .before .before .pre) ∙ c .before .o4 .given .1)
 
--- src/names.rt:246:27
 enum-known-o-5 : tie.Need-enum-known-o-5
 enum-known-o-5 c = search needs
 
--- src/names.rt:246:74
 add-label-named : tie.Need-add-label-named
 add-label-named c = search needs
 
--- src/names.rt:246:47
 label-named-requires : tie.Need-label-named-requires
 label-named-requires c κs = search needs
 
--- src/names.rt:247:29
 enum-known-o-6 : tie.Need-enum-known-o-6
 enum-known-o-6 c = search needs
 
--- src/names.rt:247:88
 add-variable-named-2 : tie.Need-add-variable-named-2
 add-variable-named-2 c = search needs
 
--- src/names.rt:247:52
 variable-named-requires-2 : tie.Need-variable-named-requires-2
 variable-named-requires-2 c κs = search needs
 
--- src/names.rt:249:13
 enum-known-o-7 : tie.Need-enum-known-o-7
 enum-known-o-7 c = search needs
 
--- src/names.rt:254:14
 branch-named-requires : tie.Need-branch-named-requires
 branch-named-requires c κs = search needs
 
--- src/names.rt:255:41
 enum-told : tie.Need-enum-told
 enum-told c = search needs
 
--- src/names.rt:256:34
 enum-told-2 : tie.Need-enum-told-2
 enum-told-2 c = search needs
 
--- src/names.rt:209:1
 returns-2 : tie.Need-returns-2
 returns-2 c = by-form (c .before .before .before .before .before .before .before .args .params .now) (c .before .before .before .before .before .before .before .args .variables) (c .before .before .before .before .before .before .before .args .labels) (c .before .before .before .before .before .before .before .args .file .now) (c .before .before .before .before .before .before .before .args .at) (c .before .before .before .before .before .before .before .args .o) _ _ (c .before .before .o .given .1) (c .variable-named .ensures)
 
--- src/names.rt:209:1
 returns-3 : tie.Need-returns-3
 returns-3 c = by-form (c .before .before .before .before .before .before .before .args .params .now) (c .before .before .before .before .before .before .before .args .variables) (c .before .before .before .before .before .before .before .args .labels) (c .before .before .before .before .before .before .before .args .file .now) (c .before .before .before .before .before .before .before .args .at) (c .before .before .before .before .before .before .before .args .o) _ _ (c .before .before .o2 .given .1) (c .two-named .ensures)
 
--- src/names.rt:209:1
 returns-4 : tie.Need-returns-4
 returns-4 c = by-form (c .before .before .before .before .before .before .before .args .params .now) (c .before .before .before .before .before .before .before .args .variables) (c .before .before .before .before .before .before .before .args .labels) (c .before .before .before .before .before .before .before .args .file .now) (c .before .before .before .before .before .before .before .args .at) (c .before .before .before .before .before .before .before .args .o) _ _ (c .before .before .o3 .given .1) (c .three-named .ensures)
 
--- src/names.rt:209:1
 returns-5 : tie.Need-returns-5
 returns-5 c = by-form (c .before .before .before .before .before .before .before .args .params .now) (c .before .before .before .before .before .before .before .args .variables) (c .before .before .before .before .before .before .before .args .labels) (c .before .before .before .before .before .before .before .args .file .now) (c .before .before .before .before .before .before .before .args .at) (c .before .before .before .before .before .before .before .args .o) _ _ (c .before .before .o4 .given .1) (c .call-named .ensures)
 
--- src/names.rt:209:1
 returns-6 : tie.Need-returns-6
 returns-6 c = by-form (c .before .before .before .before .before .before .before .args .params .now) (c .before .before .before .before .before .before .before .args .variables) (c .before .before .before .before .before .before .before .args .labels) (c .before .before .before .before .before .before .before .args .file .now) (c .before .before .before .before .before .before .before .args .at) (c .before .before .before .before .before .before .before .args .o) _ _ (c .before .before .o5 .given .1) (c .label-named .ensures)
 
--- src/names.rt:209:1
 returns-7 : tie.Need-returns-7
 returns-7 c = by-form (c .before .before .before .before .before .before .before .args .params .now) (c .before .before .before .before .before .before .before .args .variables) (c .before .before .before .before .before .before .before .args .labels) (c .before .before .before .before .before .before .before .args .file .now) (c .before .before .before .before .before .before .before .args .at) (c .before .before .before .before .before .before .before .args .o) _ _ (c .before .before .o6 .given .1) (c .variable-named2 .ensures)
 
--- src/names.rt:209:1
 returns-8 : tie.Need-returns-8
 returns-8 c = by-form (c .before .before .before .before .before .before .before .args .params .now) (c .before .before .before .before .before .before .before .args .variables) (c .before .before .before .before .before .before .before .args .labels) (c .before .before .before .before .before .before .before .args .file .now) (c .before .before .before .before .before .before .before .args .at) (c .before .before .before .before .before .before .before .args .o) _ _ (c .before .before .o7 .given .1) (c .branch-named .ensures)
 
--- src/names.rt:209:1
 returns-9 : tie.Need-returns-9
 returns-9 c = by-form (c .before .before .before .before .before .args .params .now) (c .before .before .before .before .before .args .variables) (c .before .before .before .before .before .args .labels) (c .before .before .before .before .before .args .file .now) (c .before .before .before .before .before .args .at) (c .before .before .before .before .before .args .o) _ _ (c .enum-told .given .1) refl
 
--- src/names.rt:209:1
 returns-10 : tie.Need-returns-10
 returns-10 c = by-form (c .before .before .before .before .before .args .params .now) (c .before .before .before .before .before .args .variables) (c .before .before .before .before .before .args .labels) (c .before .before .before .before .before .args .file .now) (c .before .before .before .before .before .args .at) (c .before .before .before .before .before .args .o) _ _ (c .enum-told2 .given .1) refl
 

@@ -1,23 +1,18 @@
-use Rattle.procedure_names.specs.NamesLaws.{orElse}
-use Rattle.parsing.specs.Parser.{verdictOf}
-use mathlib.Core.Path.{_≡_, refl, sym, ap, _∙_}
+use Rattle.parsing.specs.Parser.{orElse, verdictOf}
+use mathlib.Core.Path.{sym, ap}
 use borrow.Author.Needs.{needs}
 use Rattle.procedure_names.proofs.names.or_else.Statement.{statement}
 use Rattle.procedure_names.proofs.names.or_else.Tie as tie
 
--- src/names.rt:64:30
 enum-told : tie.Need-enum-told
 enum-told c = search needs
 
--- src/names.rt:65:26
 enum-known-a : tie.Need-enum-known-a
 enum-known-a c = search needs
 
--- src/names.rt:60:1
 returns : tie.Need-returns
 returns c = search needs
 
--- src/names.rt:60:1
 returns-2 : tie.Need-returns-2
 returns-2 c = ap (λ x. orElse (verdictOf x) (verdictOf (c .before .before .before .args .b))) (sym (c .before .a .given .1))
 

@@ -2,28 +2,22 @@ use Rattle.procedure_names.specs.NamedLaws.{join}
 use Rattle.procedure_names.specs.Names.{variable}
 use Prim.Native.Nat.{_+_}
 use mathlib.Core.List.{[], _∷_}
-use mathlib.Core.Path.{_≡_, refl, sym, ap, _∙_}
 use borrow.Author.Needs.{needs}
 use Rattle.procedure_names.proofs.names.three_named.Statement.{statement}
 use Rattle.procedure_names.proofs.names.three_named.Tie as tie
 
--- src/names.rt:162:9
 two-named-requires : tie.Need-two-named-requires
 two-named-requires c κs = search needs
 
--- src/names.rt:163:38
 add-variable-named : tie.Need-add-variable-named
 add-variable-named c = search needs
 
--- src/names.rt:163:9
 variable-named-requires : tie.Need-variable-named-requires
 variable-named-requires c κs = search needs
 
--- src/names.rt:161:5
 or-else-requires : tie.Need-or-else-requires
 or-else-requires c κs = search needs
 
--- src/names.rt:157:1
 returns : tie.Need-returns
 returns c = let a = c .before .before .before .args in join (variable (a .variables) (a .at + 1) (a .x) ∷ variable (a .variables) (a .at + 2) (a .y) ∷ []) (variable (a .variables) (a .at + 3) (a .z) ∷ []) _ _ _ (c .or-else .ensures) (c .before .before .two-named .ensures) (c .before .variable-named .ensures)
 

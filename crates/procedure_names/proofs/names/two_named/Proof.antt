@@ -2,32 +2,25 @@ use Rattle.procedure_names.specs.NamedLaws.{join}
 use Rattle.procedure_names.specs.Names.{variable}
 use Prim.Native.Nat.{_+_}
 use mathlib.Core.List.{[], _∷_}
-use mathlib.Core.Path.{_≡_, refl, sym, ap, _∙_}
 use borrow.Author.Needs.{needs}
 use Rattle.procedure_names.proofs.names.two_named.Statement.{statement}
 use Rattle.procedure_names.proofs.names.two_named.Tie as tie
 
--- src/names.rt:151:38
 add-variable-named : tie.Need-add-variable-named
 add-variable-named c = search needs
 
--- src/names.rt:151:9
 variable-named-requires : tie.Need-variable-named-requires
 variable-named-requires c κs = search needs
 
--- src/names.rt:152:38
 add-variable-named-2 : tie.Need-add-variable-named-2
 add-variable-named-2 c = search needs
 
--- src/names.rt:152:9
 variable-named-requires-2 : tie.Need-variable-named-requires-2
 variable-named-requires-2 c κs = search needs
 
--- src/names.rt:150:5
 or-else-requires : tie.Need-or-else-requires
 or-else-requires c κs = search needs
 
--- src/names.rt:146:1
 returns : tie.Need-returns
 returns c = let a = c .before .before .before .args in join (variable (a .variables) (a .at + 1) (a .x) ∷ []) (variable (a .variables) (a .at + 2) (a .y) ∷ []) _ _ _ (c .or-else .ensures) (c .before .before .variable-named .ensures) (c .before .variable-named2 .ensures)
 

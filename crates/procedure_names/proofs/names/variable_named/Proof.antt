@@ -1,26 +1,21 @@
 use Rattle.procedure_names.specs.NamedLaws.{variable-is, variable-none, variable-right, variable-wrong}
-use mathlib.Core.Path.{_≡_, refl, sym, ap, _∙_}
+use mathlib.Core.Path.{sym, _∙_}
 use borrow.Author.Needs.{needs}
 use Rattle.procedure_names.proofs.names.variable_named.Statement.{statement}
 use Rattle.procedure_names.proofs.names.variable_named.Tie as tie
 
--- src/names.rt:72:11
 variable-number-requires : tie.Need-variable-number-requires
 variable-number-requires c κs = search needs
 
--- src/names.rt:73:39
 enum-told : tie.Need-enum-told
 enum-told c = search needs
 
--- src/names.rt:74:55
 enum-told-2 : tie.Need-enum-told-2
 enum-told-2 c = search needs
 
--- src/names.rt:69:1
 returns : tie.Need-returns
 returns c = variable-right _ _ _ (variable-is _ _ _ (sym (c .before .before .variable-number .ensures) ∙ c .enum-told .given .1))
 
--- src/names.rt:69:1
 returns-2 : tie.Need-returns-2
 returns-2 c = variable-wrong _ _ _ (variable-none _ _ (sym (c .before .before .variable-number .ensures) ∙ c .enum-told2 .given .1))
 

@@ -3,12 +3,10 @@ use Rattle.parsing.proofs.Cases.{cases}
 use Rattle.procedure_names.proofs.names.variable_number.Statement.{statement}
 use Rattle.procedure_names.proofs.names.variable_number.Tie as tie
 
--- src/names.rt:49:1
 returns : tie.Need-returns
 unfolding variableFound
 returns c = search cases
 
--- src/names.rt:49:1
 returns-2 : tie.Need-returns-2
 unfolding variableFound
 returns-2 c = search cases

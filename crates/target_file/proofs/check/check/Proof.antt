@@ -1,6 +1,5 @@
-use mathlib.Core.Path.{_≡_, refl, sym, ap, _∙_}
-use native.Mathlib.Omega.{arith}
-use Rattle.target_file.specs.TablesLaws.{laid-file, laid-out}
+use mathlib.Core.Path.{sym, _∙_}
+use Rattle.target_file.specs.TablesLaws.{laid-out}
 use Rattle.target_file.specs.CheckLaws.{check-long, check-stop, check-names}
 use borrow.Author.Needs.{needs}
 use Rattle.target_file.proofs.check.check.Statement.{statement}

@@ -1,6 +1,6 @@
-use mathlib.Core.Path.{_≡_, refl, sym, ap, _∙_}
+use mathlib.Core.Path.{refl, sym, _∙_}
 use native.Mathlib.Omega.{arith}
-use Rattle.target_file.specs.TablesLaws.{laid-file, laid-out}
+use Rattle.target_file.specs.TablesLaws.{laid-file}
 use Rattle.target_file.specs.CheckLaws.{names-past, names-stop}
 use lib.Seq.{length-take-le}
 use borrow.Author.Needs.{needs}

@@ -34,7 +34,6 @@ use Rattle.target_file.proofs.layout.onward.Reads as onward-reads
 use Rattle.target_file.proofs.layout.stopped.Reads as stopped-reads
 use Rattle.target_tags.proofs.names.bind.Reads as bind-reads
 use Rattle.target_tags.proofs.names.judge.Reads as judge-reads
-use Rattle.target_tags.proofs.names.tail_kinds.Reads as tail-kinds-reads
 use Rattle.target_tags.proofs.tag.pair.Reads as pair-reads
 use Rattle.target_tags.proofs.tag.tag_at.Reads as tag-at-reads
 use Rattle.target_file.proofs.layout.+both_end+expression_end+handler_end+node_end+part_end+parts_end.{
@@ -179,7 +178,7 @@ both-end-enum-known-middle : (t : ℕ) → both-end-lts.Need-enum-known-middle (
 ) (both-end-at t) both-end.Post
 both-end-enum-known-middle t c = search needs
 
--- src/layout.rt:228:38
+-- src/layout.rt:229:17
 both-end-handler-end-requires : (t : ℕ) → both-end-lts.Need-handler-end-requires (
   bind-reads.Asked,
   bind-reads.Learnt,
@@ -192,7 +191,7 @@ both-end-handler-end-requires : (t : ℕ) → both-end-lts.Need-handler-end-requ
 ) (both-end-at t) both-end.Post
 both-end-handler-end-requires t c κs = let q = c .before .before .before .before .before .before .before .before .pre .0 in let p = c .before .before .before .before .before .before .before .before .pre .1 in let w = part-past _ _ _ _ _ _ _ _ _ (sym (c .before .before .before .part-end .ensures) ∙ c .before .middle .given .1) in (omega (arith, q, p .1 .0, p .1 .1, w .fills), p .0)
 
--- src/layout.rt:228:31
+-- src/layout.rt:230:13
 both-end-onward-requires : (t : ℕ) → both-end-lts.Need-onward-requires (
   bind-reads.Asked,
   bind-reads.Learnt,
@@ -205,7 +204,7 @@ both-end-onward-requires : (t : ℕ) → both-end-lts.Need-onward-requires (
 ) (both-end-at t) both-end.Post
 both-end-onward-requires t c κs = tt
 
--- src/layout.rt:229:23
+-- src/layout.rt:232:23
 both-end-enum-known-r : (t : ℕ) → both-end-lts.Need-enum-known-r (
   bind-reads.Asked,
   bind-reads.Learnt,
@@ -218,7 +217,7 @@ both-end-enum-known-r : (t : ℕ) → both-end-lts.Need-enum-known-r (
 ) (both-end-at t) both-end.Post
 both-end-enum-known-r t c = search needs
 
--- src/layout.rt:209:1
+-- src/layout.rt:208:1
 both-end-returns : (t : ℕ) → both-end-lts.Need-returns (
   bind-reads.Asked,
   bind-reads.Learnt,
@@ -229,9 +228,9 @@ both-end-returns : (t : ℕ) → both-end-lts.Need-returns (
   onward-reads.Asked,
   onward-reads.Learnt,
 ) (both-end-at t) both-end.Post
-both-end-returns t c = both-on _ _ _ _ _ _ _ _ _ _ _ (c .before .before .before .before .before .before .bind2 .ensures ∙ ap (λ l. bound l (c .before .before .before .before .before .before .before .before .before .before .args .handler) 3) (c .before .before .before .before .before .before .before .bind .ensures)) _ (sym (c .before .before .before .before .before .part-end .ensures) ∙ c .before .before .before .middle .given .1) (c .onward .ensures) (c .before .handler-end .ensures)
+both-end-returns t c = both-on _ _ _ _ _ _ _ _ _ _ _ _ (c .before .before .before .before .before .before .bind2 .ensures ∙ ap (λ l. bound l (c .before .before .before .before .before .before .before .before .before .before .args .handler) 3) (c .before .before .before .before .before .before .before .bind .ensures)) _ (sym (c .before .before .before .before .before .part-end .ensures) ∙ c .before .before .before .middle .given .1) (c .onward .ensures) (c .before .handler-end .ensures)
 
--- src/layout.rt:209:1
+-- src/layout.rt:208:1
 both-end-returns-2 : (t : ℕ) → both-end-lts.Need-returns-2 (
   bind-reads.Asked,
   bind-reads.Learnt,
@@ -242,7 +241,7 @@ both-end-returns-2 : (t : ℕ) → both-end-lts.Need-returns-2 (
   onward-reads.Asked,
   onward-reads.Learnt,
 ) (both-end-at t) both-end.Post
-both-end-returns-2 t c = both-stop _ _ _ _ _ _ _ _ _ _ _ (c .before .before .before .before .bind2 .ensures ∙ ap (λ l. bound l (c .before .before .before .before .before .before .before .before .args .handler) 3) (c .before .before .before .before .before .bind .ensures)) _ (sym (c .before .before .before .part-end .ensures) ∙ c .before .r .given .1)
+both-end-returns-2 t c = both-stop _ _ _ _ _ _ _ _ _ _ _ _ (c .before .before .before .before .bind2 .ensures ∙ ap (λ l. bound l (c .before .before .before .before .before .before .before .before .args .handler) 3) (c .before .before .before .before .before .bind .ensures)) _ (sym (c .before .before .before .part-end .ensures) ∙ c .before .r .given .1)
 
 abbrev expression-end-Inv-loop : expression-end-lts.InvT-loop
 expression-end-Inv-loop file params names level start at₀ seen₀ at seen =
@@ -257,8 +256,8 @@ expression-end-loop-holds : (t : ℕ) → expression-end-lts.Need-loop-holds (
   tag-at-reads.Learnt,
   node-end-below t,
   node-end.Post,
-  tail-kinds-reads.Asked,
-  tail-kinds-reads.Learnt,
+  bind-reads.Asked,
+  bind-reads.Learnt,
 ) (expression-end-at t) expression-end.Post expression-end-Inv-loop expression-end-μ-loop
 expression-end-loop-holds t c = (omega arith, c .before .before .pre .1 .1, refl)
 
@@ -268,8 +267,8 @@ expression-end-tag-at-requires : (t : ℕ) → expression-end-lts.Need-tag-at-re
   tag-at-reads.Learnt,
   node-end-below t,
   node-end.Post,
-  tail-kinds-reads.Asked,
-  tail-kinds-reads.Learnt,
+  bind-reads.Asked,
+  bind-reads.Learnt,
 ) (expression-end-at t) expression-end.Post expression-end-Inv-loop expression-end-μ-loop
 expression-end-tag-at-requires t c κs = tt
 
@@ -279,32 +278,32 @@ expression-end-node-end-requires : (t : ℕ) → expression-end-lts.Need-node-en
   tag-at-reads.Learnt,
   node-end-below t,
   node-end.Post,
-  tail-kinds-reads.Asked,
-  tail-kinds-reads.Learnt,
+  bind-reads.Asked,
+  bind-reads.Learnt,
 ) (expression-end-at t) expression-end.Post expression-end-Inv-loop expression-end-μ-loop
 expression-end-node-end-requires t c κs = let q = c .before .before .before .before .pre .0 in let p = c .before .before .before .before .pre .1 in let v = c .before .loop .inv in (omega (arith, q, v .0, v .1), (p .0, record { small = omega (arith, p .0, v .1); is = c .tag-at .ensures }))
 
--- src/layout.rt:86:27
+-- src/layout.rt:86:29
 expression-end-enum-known-next : (t : ℕ) → expression-end-lts.Need-enum-known-next (
   tag-at-reads.Asked,
   tag-at-reads.Learnt,
   node-end-below t,
   node-end.Post,
-  tail-kinds-reads.Asked,
-  tail-kinds-reads.Learnt,
+  bind-reads.Asked,
+  bind-reads.Learnt,
 ) (expression-end-at t) expression-end.Post expression-end-Inv-loop expression-end-μ-loop
 expression-end-enum-known-next t c = search needs
 
 -- src/layout.rt:87:21
-expression-end-tail-kinds-requires : (t : ℕ) → expression-end-lts.Need-tail-kinds-requires (
+expression-end-bind-requires : (t : ℕ) → expression-end-lts.Need-bind-requires (
   tag-at-reads.Asked,
   tag-at-reads.Learnt,
   node-end-below t,
   node-end.Post,
-  tail-kinds-reads.Asked,
-  tail-kinds-reads.Learnt,
+  bind-reads.Asked,
+  bind-reads.Learnt,
 ) (expression-end-at t) expression-end.Post expression-end-Inv-loop expression-end-μ-loop
-expression-end-tail-kinds-requires t c κs = tt
+expression-end-bind-requires t c κs = tt
 
 -- src/layout.rt:83:5
 expression-end-loop-less : (t : ℕ) → expression-end-lts.Need-loop-less (
@@ -312,10 +311,10 @@ expression-end-loop-less : (t : ℕ) → expression-end-lts.Need-loop-less (
   tag-at-reads.Learnt,
   node-end-below t,
   node-end.Post,
-  tail-kinds-reads.Asked,
-  tail-kinds-reads.Learnt,
+  bind-reads.Asked,
+  bind-reads.Learnt,
 ) (expression-end-at t) expression-end.Post expression-end-Inv-loop expression-end-μ-loop
-expression-end-loop-less t c = let m = onward-moves _ _ _ _ _ _ (c .before .before .before .before .before .tag-at .ensures) (c .before .before .before .before .node-end .ensures) _ (c .before .before .next .given .1) in omega (arith, m .here, m .forward)
+expression-end-loop-less t c = let m = onward-moves _ _ _ _ _ _ (c .before .before .before .before .before .tag-at .ensures) (c .before .before .before .before .node-end .ensures) _ _ (c .before .before .next .given .1) in omega (arith, m .here, m .forward)
 
 -- src/layout.rt:83:5
 expression-end-loop-again : (t : ℕ) → expression-end-lts.Need-loop-again (
@@ -323,10 +322,10 @@ expression-end-loop-again : (t : ℕ) → expression-end-lts.Need-loop-again (
   tag-at-reads.Learnt,
   node-end-below t,
   node-end.Post,
-  tail-kinds-reads.Asked,
-  tail-kinds-reads.Learnt,
+  bind-reads.Asked,
+  bind-reads.Learnt,
 ) (expression-end-at t) expression-end.Post expression-end-Inv-loop expression-end-μ-loop
-expression-end-loop-again t c = let m = onward-moves _ _ _ _ _ _ (c .before .before .before .before .before .tag-at .ensures) (c .before .before .before .before .node-end .ensures) _ (c .before .before .next .given .1) in let v = c .before .before .before .before .before .before .loop .inv in (omega (arith, v .0, m .forward), m .inside, expression-onward _ _ _ _ _ _ (c .before .before .before .before .before .tag-at .ensures) (c .before .before .before .before .node-end .ensures) _ _ (c .before .before .next .given .1) (c .tail-kinds .ensures) ∙ v .2)
+expression-end-loop-again t c = let m = onward-moves _ _ _ _ _ _ (c .before .before .before .before .before .tag-at .ensures) (c .before .before .before .before .node-end .ensures) _ _ (c .before .before .next .given .1) in let v = c .before .before .before .before .before .before .loop .inv in (omega (arith, v .0, m .forward), m .inside, expression-onward _ _ _ _ _ _ (c .before .before .before .before .before .tag-at .ensures) (c .before .before .before .before .node-end .ensures) _ _ _ (c .before .before .next .given .1) (c .bind .ensures) ∙ v .2)
 
 -- src/layout.rt:91:26
 expression-end-enum-known-next-2 : (t : ℕ) → expression-end-lts.Need-enum-known-next-2 (
@@ -334,8 +333,8 @@ expression-end-enum-known-next-2 : (t : ℕ) → expression-end-lts.Need-enum-kn
   tag-at-reads.Learnt,
   node-end-below t,
   node-end.Post,
-  tail-kinds-reads.Asked,
-  tail-kinds-reads.Learnt,
+  bind-reads.Asked,
+  bind-reads.Learnt,
 ) (expression-end-at t) expression-end.Post expression-end-Inv-loop expression-end-μ-loop
 expression-end-enum-known-next-2 t c = search needs
 
@@ -345,8 +344,8 @@ expression-end-returns : (t : ℕ) → expression-end-lts.Need-returns (
   tag-at-reads.Learnt,
   node-end-below t,
   node-end.Post,
-  tail-kinds-reads.Asked,
-  tail-kinds-reads.Learnt,
+  bind-reads.Asked,
+  bind-reads.Learnt,
 ) (expression-end-at t) expression-end.Post expression-end-Inv-loop expression-end-μ-loop
 expression-end-returns t c = expression-ended _ _ _ _ _ _ (c .before .before .before .before .tag-at .ensures) (c .before .before .before .node-end .ensures) _ (c .before .next2 .given .1) ∙ c .before .before .before .before .before .loop .inv .2
 
@@ -356,8 +355,8 @@ expression-end-enum-known-r : (t : ℕ) → expression-end-lts.Need-enum-known-r
   tag-at-reads.Learnt,
   node-end-below t,
   node-end.Post,
-  tail-kinds-reads.Asked,
-  tail-kinds-reads.Learnt,
+  bind-reads.Asked,
+  bind-reads.Learnt,
 ) (expression-end-at t) expression-end.Post expression-end-Inv-loop expression-end-μ-loop
 expression-end-enum-known-r t c = search needs
 
@@ -367,12 +366,12 @@ expression-end-returns-2 : (t : ℕ) → expression-end-lts.Need-returns-2 (
   tag-at-reads.Learnt,
   node-end-below t,
   node-end.Post,
-  tail-kinds-reads.Asked,
-  tail-kinds-reads.Learnt,
+  bind-reads.Asked,
+  bind-reads.Learnt,
 ) (expression-end-at t) expression-end.Post expression-end-Inv-loop expression-end-μ-loop
 expression-end-returns-2 t c = expression-halted _ _ _ _ _ _ (c .before .before .before .before .tag-at .ensures) (c .before .before .before .node-end .ensures) _ (c .before .r .given .1) ∙ c .before .before .before .before .before .loop .inv .2
 
--- src/layout.rt:246:9
+-- src/layout.rt:249:9
 handler-end-cut-requires : (t : ℕ) → handler-end-lts.Need-cut-requires (
   cut-reads.Asked,
   cut-reads.Learnt,
@@ -383,7 +382,7 @@ handler-end-cut-requires : (t : ℕ) → handler-end-lts.Need-cut-requires (
 ) (handler-end-at t) handler-end.Post
 handler-end-cut-requires t c κs = tt
 
--- src/layout.rt:246:9
+-- src/layout.rt:249:9
 handler-end-returns : (t : ℕ) → handler-end-lts.Need-returns (
   cut-reads.Asked,
   cut-reads.Learnt,
@@ -394,7 +393,7 @@ handler-end-returns : (t : ℕ) → handler-end-lts.Need-returns (
 ) (handler-end-at t) handler-end.Post
 handler-end-returns t c = let h = c .before .if1 .taken in c .cut .ensures ∙ handler-cut _ _ _ _ _ _ (omega arith)
 
--- src/layout.rt:248:17
+-- src/layout.rt:251:17
 handler-end-add-start : (t : ℕ) → handler-end-lts.Need-add-start (
   cut-reads.Asked,
   cut-reads.Learnt,
@@ -405,7 +404,7 @@ handler-end-add-start : (t : ℕ) → handler-end-lts.Need-add-start (
 ) (handler-end-at t) handler-end.Post
 handler-end-add-start t c = search needs
 
--- src/layout.rt:250:9
+-- src/layout.rt:253:9
 handler-end-cut-requires-2 : (t : ℕ) → handler-end-lts.Need-cut-requires-2 (
   cut-reads.Asked,
   cut-reads.Learnt,
@@ -416,7 +415,7 @@ handler-end-cut-requires-2 : (t : ℕ) → handler-end-lts.Need-cut-requires-2 (
 ) (handler-end-at t) handler-end.Post
 handler-end-cut-requires-2 t c κs = tt
 
--- src/layout.rt:250:9
+-- src/layout.rt:253:9
 handler-end-returns-2 : (t : ℕ) → handler-end-lts.Need-returns-2 (
   cut-reads.Asked,
   cut-reads.Learnt,
@@ -427,7 +426,7 @@ handler-end-returns-2 : (t : ℕ) → handler-end-lts.Need-returns-2 (
 ) (handler-end-at t) handler-end.Post
 handler-end-returns-2 t c = c .cut2 .ensures ∙ handler-cut _ _ _ _ _ _ (c .before .if2 .taken)
 
--- src/layout.rt:252:26
+-- src/layout.rt:255:26
 handler-end-shared-slice-read-pair : (t : ℕ) → handler-end-lts.Need-shared-slice-read-pair (
   cut-reads.Asked,
   cut-reads.Learnt,
@@ -438,7 +437,7 @@ handler-end-shared-slice-read-pair : (t : ℕ) → handler-end-lts.Need-shared-s
 ) (handler-end-at t) handler-end.Post
 handler-end-shared-slice-read-pair t c = search needs
 
--- src/layout.rt:252:41
+-- src/layout.rt:255:41
 handler-end-add-pair : (t : ℕ) → handler-end-lts.Need-add-pair (
   cut-reads.Asked,
   cut-reads.Learnt,
@@ -449,7 +448,7 @@ handler-end-add-pair : (t : ℕ) → handler-end-lts.Need-add-pair (
 ) (handler-end-at t) handler-end.Post
 handler-end-add-pair t c = search needs
 
--- src/layout.rt:252:36
+-- src/layout.rt:255:36
 handler-end-shared-slice-read-pair-2 : (t : ℕ) → handler-end-lts.Need-shared-slice-read-pair-2 (
   cut-reads.Asked,
   cut-reads.Learnt,
@@ -460,7 +459,7 @@ handler-end-shared-slice-read-pair-2 : (t : ℕ) → handler-end-lts.Need-shared
 ) (handler-end-at t) handler-end.Post
 handler-end-shared-slice-read-pair-2 t c = search needs
 
--- src/layout.rt:252:9
+-- src/layout.rt:255:9
 handler-end-pair-requires : (t : ℕ) → handler-end-lts.Need-pair-requires (
   cut-reads.Asked,
   cut-reads.Learnt,
@@ -471,7 +470,7 @@ handler-end-pair-requires : (t : ℕ) → handler-end-lts.Need-pair-requires (
 ) (handler-end-at t) handler-end.Post
 handler-end-pair-requires t c κs = tt
 
--- src/layout.rt:253:5
+-- src/layout.rt:256:5
 handler-end-part-end-requires : (t : ℕ) → handler-end-lts.Need-part-end-requires (
   cut-reads.Asked,
   cut-reads.Learnt,
@@ -482,7 +481,7 @@ handler-end-part-end-requires : (t : ℕ) → handler-end-lts.Need-part-end-requ
 ) (handler-end-at t) handler-end.Post
 handler-end-part-end-requires t c κs = let q = c .before .before .before .before .before .before .before .pre .0 in (omega (arith, q), c .before .before .before .before .before .before .before .pre .1)
 
--- src/layout.rt:234:1
+-- src/layout.rt:237:1
 handler-end-returns-3 : (t : ℕ) → handler-end-lts.Need-returns-3 (
   cut-reads.Asked,
   cut-reads.Learnt,
@@ -547,7 +546,7 @@ node-end-returns-2 : (t : ℕ) → node-end-lts.Need-returns-2 (
 ) (node-end-at t) node-end.Post
 node-end-returns-2 t c = node-wrong _ _ _ _ _ _ _ (c .before .before .before .judge .ensures) _ (c .before .r .given .1)
 
--- src/layout.rt:271:9
+-- src/layout.rt:274:9
 part-end-cut-requires : (t : ℕ) → part-end-lts.Need-cut-requires (
   cut-reads.Asked,
   cut-reads.Learnt,
@@ -560,7 +559,7 @@ part-end-cut-requires : (t : ℕ) → part-end-lts.Need-cut-requires (
 ) (part-end-at t) part-end.Post
 part-end-cut-requires t c κs = tt
 
--- src/layout.rt:271:9
+-- src/layout.rt:274:9
 part-end-returns : (t : ℕ) → part-end-lts.Need-returns (
   cut-reads.Asked,
   cut-reads.Learnt,
@@ -573,7 +572,7 @@ part-end-returns : (t : ℕ) → part-end-lts.Need-returns (
 ) (part-end-at t) part-end.Post
 part-end-returns t c = c .cut .ensures ∙ part-cut _ _ _ _ _ _ _ _ (c .before .if1 .taken)
 
--- src/layout.rt:275:49
+-- src/layout.rt:278:49
 part-end-add-expression-end : (t : ℕ) → part-end-lts.Need-add-expression-end (
   cut-reads.Asked,
   cut-reads.Learnt,
@@ -586,7 +585,7 @@ part-end-add-expression-end : (t : ℕ) → part-end-lts.Need-add-expression-end
 ) (part-end-at t) part-end.Post
 part-end-add-expression-end t c = search needs
 
--- src/layout.rt:275:13
+-- src/layout.rt:278:13
 part-end-expression-end-requires : (t : ℕ) → part-end-lts.Need-expression-end-requires (
   cut-reads.Asked,
   cut-reads.Learnt,
@@ -599,7 +598,7 @@ part-end-expression-end-requires : (t : ℕ) → part-end-lts.Need-expression-en
 ) (part-end-at t) part-end.Post
 part-end-expression-end-requires t c κs = let q = c .before .before .before .before .pre .0 in let h = c .before .if1 .left in (omega (arith, q), (c .before .before .before .before .pre .1, omega (arith, h)))
 
--- src/layout.rt:274:9
+-- src/layout.rt:277:9
 part-end-measured-end-requires : (t : ℕ) → part-end-lts.Need-measured-end-requires (
   cut-reads.Asked,
   cut-reads.Learnt,
@@ -612,7 +611,7 @@ part-end-measured-end-requires : (t : ℕ) → part-end-lts.Need-measured-end-re
 ) (part-end-at t) part-end.Post
 part-end-measured-end-requires t c κs = tt
 
--- src/layout.rt:274:9
+-- src/layout.rt:277:9
 part-end-returns-2 : (t : ℕ) → part-end-lts.Need-returns-2 (
   cut-reads.Asked,
   cut-reads.Learnt,
@@ -625,7 +624,7 @@ part-end-returns-2 : (t : ℕ) → part-end-lts.Need-returns-2 (
 ) (part-end-at t) part-end.Post
 part-end-returns-2 t c = c .measured-end .ensures ∙ part-in _ _ _ _ _ _ _ _ (c .before .before .before .if1 .left) (c .before .before .if2 .taken) (c .before .expression-end .ensures)
 
--- src/layout.rt:281:5
+-- src/layout.rt:284:5
 part-end-stopped-requires : (t : ℕ) → part-end-lts.Need-stopped-requires (
   cut-reads.Asked,
   cut-reads.Learnt,
@@ -638,7 +637,7 @@ part-end-stopped-requires : (t : ℕ) → part-end-lts.Need-stopped-requires (
 ) (part-end-at t) part-end.Post
 part-end-stopped-requires t c κs = tt
 
--- src/layout.rt:257:1
+-- src/layout.rt:260:1
 part-end-returns-3 : (t : ℕ) → part-end-lts.Need-returns-3 (
   cut-reads.Asked,
   cut-reads.Learnt,
@@ -651,7 +650,7 @@ part-end-returns-3 : (t : ℕ) → part-end-lts.Need-returns-3 (
 ) (part-end-at t) part-end.Post
 part-end-returns-3 t c = c .stopped .ensures ∙ part-deep _ _ _ _ _ _ _ _ (c .before .before .if1 .left) (c .before .if2 .left)
 
--- src/layout.rt:139:13
+-- src/layout.rt:137:13
 parts-end-enum-known-node : (t : ℕ) → parts-end-lts.Need-enum-known-node (
   part-end-below t,
   part-end.Post,
@@ -664,7 +663,7 @@ parts-end-enum-known-node : (t : ℕ) → parts-end-lts.Need-enum-known-node (
 ) (parts-end-at t) parts-end.Post
 parts-end-enum-known-node t c = search needs
 
--- src/layout.rt:144:13
+-- src/layout.rt:142:13
 parts-end-enum-known-node-2 : (t : ℕ) → parts-end-lts.Need-enum-known-node-2 (
   part-end-below t,
   part-end.Post,
@@ -677,7 +676,7 @@ parts-end-enum-known-node-2 : (t : ℕ) → parts-end-lts.Need-enum-known-node-2
 ) (parts-end-at t) parts-end.Post
 parts-end-enum-known-node-2 t c = search needs
 
--- src/layout.rt:150:13
+-- src/layout.rt:147:13
 parts-end-enum-known-node-3 : (t : ℕ) → parts-end-lts.Need-enum-known-node-3 (
   part-end-below t,
   part-end.Post,
@@ -742,7 +741,7 @@ parts-end-enum-known-node-7 : (t : ℕ) → parts-end-lts.Need-enum-known-node-7
 ) (parts-end-at t) parts-end.Post
 parts-end-enum-known-node-7 t c = search needs
 
--- src/layout.rt:170:77
+-- src/layout.rt:171:80
 parts-end-add-part-end : (t : ℕ) → parts-end-lts.Need-add-part-end (
   part-end-below t,
   part-end.Post,
@@ -755,7 +754,7 @@ parts-end-add-part-end : (t : ℕ) → parts-end-lts.Need-add-part-end (
 ) (parts-end-at t) parts-end.Post
 parts-end-add-part-end t c = let p = c .before .before .before .before .before .pre .1 .1 .small in omega arith
 
--- src/layout.rt:170:21
+-- src/layout.rt:171:17
 parts-end-part-end-requires : (t : ℕ) → parts-end-lts.Need-part-end-requires (
   part-end-below t,
   part-end.Post,
@@ -768,7 +767,7 @@ parts-end-part-end-requires : (t : ℕ) → parts-end-lts.Need-part-end-requires
 ) (parts-end-at t) parts-end.Post
 parts-end-part-end-requires t c κs = let q = c .before .before .before .before .before .pre .0 in let f = branch-fields _ _ (c .before .before .before .before .before .pre .1 .1 .is) (c .before .node7 .given .1) in (omega (arith, q, f .here, f .forward, f .inside), c .before .before .before .before .before .pre .1 .0)
 
--- src/layout.rt:170:14
+-- src/layout.rt:172:13
 parts-end-onward-requires : (t : ℕ) → parts-end-lts.Need-onward-requires (
   part-end-below t,
   part-end.Post,
@@ -781,7 +780,7 @@ parts-end-onward-requires : (t : ℕ) → parts-end-lts.Need-onward-requires (
 ) (parts-end-at t) parts-end.Post
 parts-end-onward-requires t c κs = tt
 
--- src/layout.rt:172:13
+-- src/layout.rt:175:13
 parts-end-enum-known-node-8 : (t : ℕ) → parts-end-lts.Need-enum-known-node-8 (
   part-end-below t,
   part-end.Post,
@@ -794,7 +793,7 @@ parts-end-enum-known-node-8 : (t : ℕ) → parts-end-lts.Need-enum-known-node-8
 ) (parts-end-at t) parts-end.Post
 parts-end-enum-known-node-8 t c = search needs
 
--- src/layout.rt:181:13
+-- src/layout.rt:180:17
 parts-end-bind-requires : (t : ℕ) → parts-end-lts.Need-bind-requires (
   part-end-below t,
   part-end.Post,
@@ -807,7 +806,7 @@ parts-end-bind-requires : (t : ℕ) → parts-end-lts.Need-bind-requires (
 ) (parts-end-at t) parts-end.Post
 parts-end-bind-requires t c κs = tt
 
--- src/layout.rt:184:13
+-- src/layout.rt:181:79
 parts-end-add-part-end-2 : (t : ℕ) → parts-end-lts.Need-add-part-end-2 (
   part-end-below t,
   part-end.Post,
@@ -820,7 +819,7 @@ parts-end-add-part-end-2 : (t : ℕ) → parts-end-lts.Need-add-part-end-2 (
 ) (parts-end-at t) parts-end.Post
 parts-end-add-part-end-2 t c = let p = c .before .before .before .before .before .before .pre .1 .1 .small in omega arith
 
--- src/layout.rt:176:21
+-- src/layout.rt:181:17
 parts-end-part-end-requires-2 : (t : ℕ) → parts-end-lts.Need-part-end-requires-2 (
   part-end-below t,
   part-end.Post,
@@ -833,7 +832,7 @@ parts-end-part-end-requires-2 : (t : ℕ) → parts-end-lts.Need-part-end-requir
 ) (parts-end-at t) parts-end.Post
 parts-end-part-end-requires-2 t c κs = let q = c .before .before .before .before .before .before .pre .0 in let f = continuation-fields _ _ (c .before .before .before .before .before .before .pre .1 .1 .is) (c .before .before .node8 .given .1) in (omega (arith, q, f .here, f .forward, f .inside), c .before .before .before .before .before .before .pre .1 .0)
 
--- src/layout.rt:176:14
+-- src/layout.rt:182:13
 parts-end-onward-requires-2 : (t : ℕ) → parts-end-lts.Need-onward-requires-2 (
   part-end-below t,
   part-end.Post,
@@ -846,7 +845,7 @@ parts-end-onward-requires-2 : (t : ℕ) → parts-end-lts.Need-onward-requires-2
 ) (parts-end-at t) parts-end.Post
 parts-end-onward-requires-2 t c κs = tt
 
--- src/layout.rt:187:13
+-- src/layout.rt:185:13
 parts-end-enum-known-node-9 : (t : ℕ) → parts-end-lts.Need-enum-known-node-9 (
   part-end-below t,
   part-end.Post,
@@ -859,7 +858,7 @@ parts-end-enum-known-node-9 : (t : ℕ) → parts-end-lts.Need-enum-known-node-9
 ) (parts-end-at t) parts-end.Post
 parts-end-enum-known-node-9 t c = search needs
 
--- src/layout.rt:192:14
+-- src/layout.rt:190:14
 parts-end-both-end-requires : (t : ℕ) → parts-end-lts.Need-both-end-requires (
   part-end-below t,
   part-end.Post,
@@ -872,7 +871,7 @@ parts-end-both-end-requires : (t : ℕ) → parts-end-lts.Need-both-end-requires
 ) (parts-end-at t) parts-end.Post
 parts-end-both-end-requires t c κs = let q = c .before .before .before .before .before .pre .0 in let f = both-fields _ _ (c .before .before .before .before .before .pre .1 .1 .is) (c .before .node9 .given .1) in (omega (arith, q), (c .before .before .before .before .before .pre .1 .0, (f .forward, f .inside)))
 
--- src/layout.rt:204:22
+-- src/layout.rt:203:22
 parts-end-enum-known-node-10 : (t : ℕ) → parts-end-lts.Need-enum-known-node-10 (
   part-end-below t,
   part-end.Post,
@@ -1059,8 +1058,8 @@ pub +both-end+expression-end+handler-end+node-end+part-end+parts-end-spec :
       tag-at-reads.Learnt,
       node-end-below t,
       node-end.Post,
-      tail-kinds-reads.Asked,
-      tail-kinds-reads.Learnt,
+      bind-reads.Asked,
+      bind-reads.Learnt,
     )
     (expression-end-at t)
     expression-end.Post
@@ -1070,7 +1069,7 @@ pub +both-end+expression-end+handler-end+node-end+part-end+parts-end-spec :
     (expression-end-tag-at-requires t)
     (expression-end-node-end-requires t)
     (expression-end-enum-known-next t)
-    (expression-end-tail-kinds-requires t)
+    (expression-end-bind-requires t)
     (expression-end-loop-less t)
     (expression-end-loop-again t)
     (expression-end-enum-known-next-2 t)

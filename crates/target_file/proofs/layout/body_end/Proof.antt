@@ -1,4 +1,4 @@
-use mathlib.Core.Path.{_≡_, refl, sym, ap, _∙_}
+use mathlib.Core.Path.{_∙_}
 use native.Mathlib.Omega.{arith}
 use Rattle.target_file.specs.FileLaws.{body-cut, body-in}
 use borrow.Author.Needs.{needs}

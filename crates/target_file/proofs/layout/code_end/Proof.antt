@@ -1,5 +1,4 @@
-use mathlib.Core.Path.{_≡_, refl, sym, ap, _∙_}
-use native.Mathlib.Omega.{arith}
+use mathlib.Core.Path.{sym, _∙_}
 use Rattle.target_file.specs.FileLaws.{code-1, code-2, code-3, code-4, code-5}
 use borrow.Author.Needs.{needs}
 use Rattle.target_file.proofs.layout.code_end.Statement.{statement}

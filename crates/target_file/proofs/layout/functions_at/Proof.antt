@@ -1,4 +1,4 @@
-use mathlib.Core.Path.{_≡_, refl, sym, ap, _∙_}
+use mathlib.Core.Path.{sym, ap, _∙_}
 use native.Mathlib.Omega.{arith}
 use Rattle.target_file.specs.FileLaws.{functions-cut, functions-none, functions-many, functions-right}
 use Rattle.target_file.specs.Ends.{functionsRead}

@@ -1,5 +1,4 @@
-use mathlib.Core.Path.{_≡_, refl, sym, ap, _∙_}
-use native.Mathlib.Omega.{arith}
+use mathlib.Core.Path.{_≡_, refl, sym, _∙_}
 use borrow.Author.Needs.{needs}
 use Rattle.parsing.specs.Parser.{pastOf, many}
 use Rattle.parsing.specs.ParserLaws.{many-turn, many-halt, many-last}

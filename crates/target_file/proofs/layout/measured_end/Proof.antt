@@ -1,5 +1,4 @@
-use mathlib.Core.Path.{_≡_, refl, sym, ap, _∙_}
-use native.Mathlib.Omega.{arith}
+use mathlib.Core.Path.{_∙_}
 use Rattle.target_file.specs.EndLaws.{measured-stopped, measured-back, measured-right, measured-unlike}
 use borrow.Author.Needs.{needs}
 use Rattle.target_file.proofs.layout.measured_end.Statement.{statement}

@@ -1,4 +1,4 @@
-use mathlib.Core.Path.{_≡_, refl, sym, ap, _∙_}
+use mathlib.Core.Path.{sym, ap}
 use Rattle.target_file.specs.Ends.{onwardOf}
 use borrow.Author.Needs.{needs}
 use Rattle.target_file.proofs.layout.onward.Statement.{statement}
@@ -16,11 +16,11 @@ enum-known-part-2 c = search needs
 
 -- src/layout.rt:59:1
 returns : tie.Need-returns
-returns c = sym (ap onwardOf (c .before .part .given .1))
+returns c = sym (ap (onwardOf (c .before .before .before .args .slot)) (c .before .part .given .1))
 
 -- src/layout.rt:59:1
 returns-2 : tie.Need-returns-2
-returns-2 c = sym (ap onwardOf (c .before .part2 .given .1))
+returns-2 c = sym (ap (onwardOf (c .before .before .before .args .slot)) (c .before .part2 .given .1))
 
 pub onward-spec : {M : Type 1} → statement M
 onward-spec = tie.close (tie.spec enum-known-part enum-known-part-2 returns returns-2)

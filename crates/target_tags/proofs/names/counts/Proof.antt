@@ -1,6 +1,5 @@
 use Rattle.target_tags.specs.NamesLaws.{arity-right, arity-wrong}
-use native.Mathlib.Omega.{arith}
-use mathlib.Core.Path.{_≡_, refl, _∙_, sym, ap}
+use mathlib.Core.Path.{_∙_}
 use borrow.Author.Needs.{needs}
 use Rattle.target_tags.proofs.names.counts.Statement.{statement}
 use Rattle.target_tags.proofs.names.counts.Tie as tie

@@ -1,5 +1,4 @@
-use native.Mathlib.Omega.{arith}
-use mathlib.Core.Path.{_≡_, refl, _∙_, sym, ap}
+use mathlib.Core.Path.{_∙_}
 use Rattle.target_tags.specs.NamesLaws.{also}
 use Rattle.target_tags.specs.Names.{jumpNames}
 use borrow.Author.Needs.{needs}

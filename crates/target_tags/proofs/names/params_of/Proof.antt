@@ -5,7 +5,7 @@ use Rattle.target_tags.proofs.names.params_of.Statement.{statement}
 use Rattle.target_tags.proofs.names.params_of.Tie as tie
 use Rattle.target_tags.proofs.names.params_of.Reads as reads
 use Rattle.target_tags.proofs.names.params_of.Lts as lts
-use Rattle.target_tags.proofs.names.wide.Reads as wide-reads
+use Rattle.target_tags.proofs.tag.wide.Reads as wide-reads
 
 -- src/names.rt:79:21
 shared-slice-read-wide : tie.Need-shared-slice-read-wide

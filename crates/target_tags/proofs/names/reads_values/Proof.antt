@@ -1,6 +1,6 @@
 use Rattle.target_tags.specs.NamesLaws.{values-stop, values-on, values-none}
 use native.Mathlib.Omega.{arith}
-use mathlib.Core.Path.{_≡_, refl, _∙_, sym, ap}
+use mathlib.Core.Path.{_≡_, refl, _∙_, sym}
 use Prim.Native.Nat.{_+_, _≤_}
 use lib.ListN.{length}
 use borrow.Author.Needs.{needs}
@@ -10,7 +10,7 @@ use Rattle.target_tags.proofs.names.reads_values.Tie as tie
 use Rattle.target_tags.proofs.names.reads_values.Reads as reads
 use Rattle.target_tags.proofs.names.reads_values.Lts as lts
 use Rattle.target_tags.proofs.names.reads_slot.Reads as reads-slot-reads
-use Rattle.target_tags.proofs.names.wide.Reads as wide-reads
+use Rattle.target_tags.proofs.tag.wide.Reads as wide-reads
 
 abbrev Inv-loop : tie.InvT-loop
 Inv-loop file kinds start count at₀ left₀ at left =

@@ -1,6 +1,6 @@
 use Rattle.target_tags.specs.TagLaws.{both-cut, both-in}
 use native.Mathlib.Omega.{arith}
-use mathlib.Core.Path.{_∙_, sym, ap}
+use mathlib.Core.Path.{_∙_}
 use borrow.Author.Needs.{needs}
 use Rattle.target_tags.proofs.tag.both_at.Statement.{statement}
 use Rattle.target_tags.proofs.tag.both_at.Tie as tie

@@ -1,6 +1,6 @@
 use Rattle.target_tags.specs.TagLaws.{constant-cut, constant-in}
 use native.Mathlib.Omega.{arith}
-use mathlib.Core.Path.{_∙_, sym, ap}
+use mathlib.Core.Path.{_∙_}
 use mir.Facts.{toZ-ofZ}
 use borrow.Author.Needs.{needs}
 use Rattle.target_tags.proofs.tag.constant_at.Statement.{statement}

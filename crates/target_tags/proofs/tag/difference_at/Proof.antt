@@ -1,6 +1,6 @@
 use Rattle.target_tags.specs.TagLaws.{difference-cut, difference-in}
 use native.Mathlib.Omega.{arith}
-use mathlib.Core.Path.{_∙_, sym, ap}
+use mathlib.Core.Path.{_∙_}
 use borrow.Author.Needs.{needs}
 use Rattle.target_tags.proofs.tag.difference_at.Statement.{statement}
 use Rattle.target_tags.proofs.tag.difference_at.Tie as tie

@@ -1,6 +1,6 @@
 use Rattle.target_tags.specs.TagLaws.{jump-cut, jump-short, jump-in}
 use native.Mathlib.Omega.{arith}
-use mathlib.Core.Path.{_∙_, sym, ap}
+use mathlib.Core.Path.{_∙_}
 use Prim.Native.Nat.{_+_}
 use borrow.Author.Needs.{needs}
 use Rattle.target_tags.proofs.tag.jump_at.Statement.{statement}

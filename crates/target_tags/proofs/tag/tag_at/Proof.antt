@@ -1,6 +1,6 @@
 use Rattle.target_tags.specs.TagLaws.{tag-past, tag-unknown, tag-1, tag-2, tag-3, tag-4, tag-5, tag-6, tag-7, tag-8, tag-9}
 use native.Mathlib.Omega.{arith}
-use mathlib.Core.Path.{_∙_, sym, ap}
+use mathlib.Core.Path.{_∙_}
 use borrow.Author.Needs.{needs}
 use Rattle.target_tags.proofs.tag.tag_at.Statement.{statement}
 use Rattle.target_tags.proofs.tag.tag_at.Tie as tie

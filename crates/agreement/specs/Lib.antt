@@ -1,0 +1,3 @@
+-- Definitions: Statement. Laws: the others.
+pub mod Statement
+pub mod Theorem

@@ -1,0 +1,92 @@
+-- The proof of demand 1 for translated files.
+use Prim.Native.Nat.{ℕ, _+_, _≤_}
+use mathlib.Core.Path.{_≡_, refl, sym, ap, _∙_, subst}
+use mathlib.Core.List.{List, [], _∷_, _++_, append-nil}
+use native.Mathlib.Omega.{arith}
+use lib.ListN.{length, drop}
+use lib.Seq.{drop-length}
+use Rattle.semantics.specs.Code.{Code}
+use Rattle.semantics.specs.WellFormed.{All}
+use Rattle.parsing.specs.Parser.{accepted, joined}
+use Rattle.parsing.specs.Bytes.{Bytes, pairBytes}
+use Rattle.parsing.specs.BytesLaws.{pair-forth}
+use Rattle.parsing.specs.WroteLaws.{Wrote, wrote-join, wrote-marked, wrote-version}
+use Rattle.parsing.specs.ReadsLaws.{reads-marked, reads-version}
+use Rattle.target_file.specs.Layout.{spc}
+use Rattle.target_file.specs.Writing.{size, targetBytes, writing, ConstantsFit, TargetInRange, InRange}
+use Rattle.target_file.specs.Check.{checkOf, codeOf}
+use Rattle.target_file.specs.CodeLaws.{codeSize, CodeAt, Ranged, FileAt}
+use Rattle.target_file.specs.FactsLaws.{passed, passes, code-is}
+use Rattle.target_file.specs.WrittenLaws.{wrote-pair, expr-wrote, code-wrote}
+use Rattle.target_file.specs.ReadsBackLaws.{code-stands, joined-length}
+use Rattle.target_file.specs.Accepted.{HasFile, Acceptance}
+
+module _ (s : List ℕ) (bytes : Bytes s) where
+  targets-in-range : (at : ℕ) (Q : Code) → CodeAt s at Q → All Ranged Q → All TargetInRange Q
+  targets-in-range at [] h g = tt
+  targets-in-range at (D ∷ Q) h g = (
+    record { params = g .0 .params; constants = expr-wrote s bytes (at + 3) (D .body) (h .2) .1; levels = g .0 .levels },
+    targets-in-range (at + 3 + size (D .body)) Q (h .3) (g .1),
+  )
+
+  file-written : (Q : Code) → FileAt s Q → s ≡ writing Q
+  unfolding writing
+  file-written Q f =
+      let w = f .whole in
+      let a = wrote-marked s spc 0 (f .mark) in
+      let b = wrote-version s 3 (f .versioned) in
+      let c : Wrote s 5 7 (pairBytes (length Q)) = subst (λ (n : ℕ). Wrote s 5 7 (pairBytes n)) (f .counted) (wrote-pair s bytes 5 (omega arith)) in
+      let d = code-wrote s bytes 7 Q (f .stands) in
+      let x = wrote-join s a (wrote-join s b (wrote-join s c d)) in
+      let e : drop (7 + codeSize Q) s ≡ [] = ap (λ (n : ℕ). drop n s) (sym w) ∙ drop-length s in
+      x .stands ∙ ap (λ (r : List ℕ). (spc ++ ((1 ∷ 0 ∷ []) ++ (pairBytes (length Q) ++ joined targetBytes Q))) ++ r) e ∙ append-nil (writing Q)
+
+pub is-writing : (s : List ℕ) → Bytes s → checkOf s ≡ accepted → HasFile (codeOf s) × (s ≡ writing (codeOf s))
+is-writing s bytes e =
+    let p = passed s e in
+    let w = file-written s bytes (codeOf s) (p .file) in (
+      record {
+        inRange = record { some = p .file .least; most = p .file .most; targets = targets-in-range s bytes 7 (codeOf s) (p .file .stands) (p .file .ranged) };
+        rules = p .rules;
+        fits = subst (λ (l : List ℕ). length l ≤ 65535) w (p .short);
+      },
+      w,
+    )
+
+all-ranged : (Q : Code) → All TargetInRange Q → All Ranged Q
+all-ranged [] g = tt
+all-ranged (D ∷ Q) g = (record { params = g .0 .params; levels = g .0 .levels }, all-ranged Q (g .1))
+
+all-constants : (Q : Code) → All TargetInRange Q → All (λ D. ConstantsFit (D .body)) Q
+all-constants [] g = tt
+all-constants (D ∷ Q) g = (g .0 .constants, all-constants Q (g .1))
+
+pub written-stands : (Q : Code) → InRange Q → FileAt (writing Q) Q
+unfolding writing
+written-stands Q r =
+    let j = joined targetBytes Q in
+    let s = writing Q in
+    let h : drop 7 s ≡ j ++ [] = sym (append-nil j) in
+    record {
+      mark = reads-marked spc .reads s 0 (1 ∷ 0 ∷ (pairBytes (length Q) ++ j)) refl;
+      versioned = reads-version .reads s 3 (pairBytes (length Q) ++ j) refl;
+      counted = pair-forth (length Q);
+      least = r .some;
+      most = r .most;
+      stands = code-stands s 7 Q [] (all-constants Q (r .targets)) h;
+      ranged = all-ranged Q (r .targets);
+      whole = omega (arith, joined-length Q);
+    }
+
+pub is-accepted : (Q : Code) → HasFile Q → (checkOf (writing Q) ≡ accepted) × (codeOf (writing Q) ≡ Q)
+is-accepted Q h =
+    let f = written-stands Q (h .inRange) in
+    (passes (writing Q) Q (record { short = h .fits; file = f; rules = h .rules }), code-is (writing Q) Q f)
+
+pub acceptance : Acceptance
+acceptance =
+    record {
+      isWriting = is-writing;
+      isAccepted = is-accepted;
+      isOne = λ Q R q r e. sym (is-accepted Q q .1) ∙ ap codeOf e ∙ is-accepted R r .1;
+    }

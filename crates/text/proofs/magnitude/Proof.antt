@@ -1,0 +1,27 @@
+-- `text::magnitude` meets its contract.
+use Rattle.text.specs.SizeLaws.{sign-of, wide-fits, turned, plain}
+use borrow.Author.Needs.{needs}
+use Rattle.text.proofs.magnitude.Statement.{statement}
+use Rattle.text.proofs.magnitude.Tie as tie
+
+cast-wide : tie.Need-cast-wide
+cast-wide c = wide-fits (c .before .args .v) (c .before .fits .v)
+
+sub-wide : tie.Need-sub-wide
+sub-wide c = turned (c .before .args .v) (c .before .fits .v) (sign-of (c .before .args .v) _ (c .before .fits .v) (c .if1 .taken)) .wide
+
+cast-result : tie.Need-cast-result
+cast-result c = let p = turned (c .before .args .v) (c .before .fits .v) (sign-of (c .before .args .v) _ (c .before .fits .v) (c .if1 .taken)) .plain in (p .sign, p .fits)
+
+returns : tie.Need-returns
+returns c = turned (c .before .args .v) (c .before .fits .v) (sign-of (c .before .args .v) _ (c .before .fits .v) (c .if1 .taken)) .same
+
+cast-result-2 : tie.Need-cast-result-2
+cast-result-2 c = let p = plain (c .before .args .v) (c .before .fits .v) (sign-of (c .before .args .v) _ (c .before .fits .v) (c .if1 .left)) in (p .sign, p .fits)
+
+returns-2 : tie.Need-returns-2
+returns-2 c = search needs
+
+pub magnitude-spec : {M : Type 1} → statement M
+magnitude-spec =
+    tie.close (tie.spec cast-wide sub-wide cast-result returns cast-result-2 returns-2)

@@ -1,0 +1,56 @@
+-- `text::put_machine` meets its contract: five texts, one behind the other.
+use native.Mathlib.Omega.{arith}
+use Rattle.text.specs.TextLaws.{wrote-then, wrote-room, length-stop, length-numbered}
+use Rattle.text.specs.Text.{machineLine}
+use borrow.Author.Needs.{needs}
+use Rattle.text.proofs.put_machine.Statement.{statement}
+use Rattle.text.proofs.put_machine.Tie as tie
+
+put-bytes-requires : tie.Need-put-bytes-requires
+put-bytes-requires c κs = search needs
+
+slice-aggregate-put-bytes : tie.Need-slice-aggregate-put-bytes
+slice-aggregate-put-bytes c = search needs
+
+put-bytes-requires-2 : tie.Need-put-bytes-requires-2
+put-bytes-requires-2 c κs = search needs
+
+put-ended-requires : tie.Need-put-ended-requires
+put-ended-requires c κs = search needs
+
+slice-aggregate-put-numbered : tie.Need-slice-aggregate-put-numbered
+slice-aggregate-put-numbered c = search needs
+
+put-numbered-requires : tie.Need-put-numbered-requires
+put-numbered-requires c κs = let room = wrote-room _ 28 (c .before .before .before .before .put-ended .ensures) (length-stop _) (omega arith) in omega arith
+
+slice-aggregate-put-bytes-2 : tie.Need-slice-aggregate-put-bytes-2
+slice-aggregate-put-bytes-2 c = search needs
+
+put-bytes-requires-3 : tie.Need-put-bytes-requires-3
+put-bytes-requires-3 c κs =
+    let room = wrote-room _ 28 (c .before .before .before .before .before .before .before .before .before .put-ended .ensures) (length-stop _) (omega arith) in
+    let rest = wrote-room _ 1 (c .before .before .before .before .put-numbered .ensures) (length-numbered _ _) (omega arith) in
+    omega arith
+
+same-length : tie.Need-same-length
+same-length c = search needs
+
+returns : tie.Need-returns
+unfolding machineLine
+returns c = wrote-then (wrote-then (wrote-then (wrote-then (c .before .before .before .before .before .before .before .before .before .before .before .before .before .before .before .before .before .before .before .before .before .put-bytes .ensures) (c .before .before .before .before .before .before .before .before .before .before .before .before .before .before .before .before .put-bytes2 .ensures)) (c .before .before .before .before .before .before .before .before .before .before .before .before .put-ended .ensures)) (c .before .before .before .before .before .before .before .put-numbered .ensures)) (c .before .before .put-bytes3 .ensures)
+
+pub put-machine-spec : {M : Type 1} → statement M
+put-machine-spec =
+    tie.close
+    (tie.spec
+    put-bytes-requires
+    slice-aggregate-put-bytes
+    put-bytes-requires-2
+    put-ended-requires
+    slice-aggregate-put-numbered
+    put-numbered-requires
+    slice-aggregate-put-bytes-2
+    put-bytes-requires-3
+    same-length
+    returns)

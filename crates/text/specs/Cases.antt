@@ -1,0 +1,42 @@
+-- The texts, computed: the example of document 01 ('exactly'), and the ends of the ranges of numbers.
+use Prim.Native.Nat.{ℕ}
+use mathlib.Core.Path.{_≡_, refl}
+use mathlib.Core.List.{List, [], _∷_, _++_}
+use lib.IntN.{ℤ, pos, negsuc}
+use Rattle.semantics.specs.Run.{value, uncaught, Stop, ended, spent, deep}
+use Rattle.text.specs.Text.{digits, decimal, signed, numbered, stopText, machineLine, targetLine, bothText, refusedText, benchWord}
+
+-- `target 106`, `bench value 7 steps 6`, `controller value 7 steps 11`
+pub t-argument-0 : bothText 106 (ended (value (pos 7))) 6 (ended (value (pos 7))) 11 ≡ 116 ∷ 97 ∷ 114 ∷ 103 ∷ 101 ∷ 116 ∷ 32 ∷ 49 ∷ 48 ∷ 54 ∷ 10 ∷ 98 ∷ 101 ∷ 110 ∷ 99 ∷ 104 ∷ 32 ∷ 118 ∷ 97 ∷ 108 ∷ 117 ∷ 101 ∷ 32 ∷ 55 ∷ 32 ∷ 115 ∷ 116 ∷ 101 ∷ 112 ∷ 115 ∷ 32 ∷ 54 ∷ 10 ∷ 99 ∷ 111 ∷ 110 ∷ 116 ∷ 114 ∷ 111 ∷ 108 ∷ 108 ∷ 101 ∷ 114 ∷ 32 ∷ 118 ∷ 97 ∷ 108 ∷ 117 ∷ 101 ∷ 32 ∷ 55 ∷ 32 ∷ 115 ∷ 116 ∷ 101 ∷ 112 ∷ 115 ∷ 32 ∷ 49 ∷ 49 ∷ 10 ∷ []
+unfolding digits decimal signed numbered stopText machineLine targetLine bothText
+t-argument-0 = refl
+
+-- `bench uncaught steps 1`
+pub line-uncaught : machineLine benchWord (ended uncaught) 1 ≡ 98 ∷ 101 ∷ 110 ∷ 99 ∷ 104 ∷ 32 ∷ 117 ∷ 110 ∷ 99 ∷ 97 ∷ 117 ∷ 103 ∷ 104 ∷ 116 ∷ 32 ∷ 115 ∷ 116 ∷ 101 ∷ 112 ∷ 115 ∷ 32 ∷ 49 ∷ 10 ∷ []
+unfolding digits decimal numbered stopText machineLine
+line-uncaught = refl
+
+-- `bench spent steps 0`
+pub line-spent : machineLine benchWord (spent tt) 0 ≡ 98 ∷ 101 ∷ 110 ∷ 99 ∷ 104 ∷ 32 ∷ 115 ∷ 112 ∷ 101 ∷ 110 ∷ 116 ∷ 32 ∷ 115 ∷ 116 ∷ 101 ∷ 112 ∷ 115 ∷ 32 ∷ 48 ∷ 10 ∷ []
+unfolding digits decimal numbered stopText machineLine
+line-spent = refl
+
+-- `bench deep steps 10`
+pub line-deep : machineLine benchWord (deep tt) 10 ≡ 98 ∷ 101 ∷ 110 ∷ 99 ∷ 104 ∷ 32 ∷ 100 ∷ 101 ∷ 101 ∷ 112 ∷ 32 ∷ 115 ∷ 116 ∷ 101 ∷ 112 ∷ 115 ∷ 32 ∷ 49 ∷ 48 ∷ 10 ∷ []
+unfolding digits decimal numbered stopText machineLine
+line-deep = refl
+
+-- `refused 15 at 2048`
+pub line-refused : refusedText 15 2048 ≡ 114 ∷ 101 ∷ 102 ∷ 117 ∷ 115 ∷ 101 ∷ 100 ∷ 32 ∷ 49 ∷ 53 ∷ 32 ∷ 97 ∷ 116 ∷ 32 ∷ 50 ∷ 48 ∷ 52 ∷ 56 ∷ 10 ∷ []
+unfolding digits decimal numbered refusedText
+line-refused = refl
+
+-- `-2147483648`
+pub least-value : signed (negsuc 2147483647) ≡ 45 ∷ 50 ∷ 49 ∷ 52 ∷ 55 ∷ 52 ∷ 56 ∷ 51 ∷ 54 ∷ 52 ∷ 56 ∷ []
+unfolding digits decimal signed
+least-value = refl
+
+-- `18446744073709551615`
+pub greatest-number : decimal 18446744073709551615 ≡ 49 ∷ 56 ∷ 52 ∷ 52 ∷ 54 ∷ 55 ∷ 52 ∷ 52 ∷ 48 ∷ 55 ∷ 51 ∷ 55 ∷ 48 ∷ 57 ∷ 53 ∷ 53 ∷ 49 ∷ 54 ∷ 49 ∷ 53 ∷ []
+unfolding digits decimal
+greatest-number = refl

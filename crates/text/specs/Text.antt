@@ -1,0 +1,110 @@
+-- The lines that program `both` prints (document 01, 'The test procedure and its neighbours'), as bytes.
+use Prim.Native.Nat.{ℕ, zero, suc, _+_, _/_, _%_}
+use mathlib.Core.Bool.{cond}
+use mathlib.Core.List.{List, [], _∷_, _++_}
+use lib.Dec.{ltb}
+use lib.IntN.{ℤ, pos, negsuc}
+use Rattle.semantics.specs.Run.{value, uncaught, Stop, ended, spent, deep, broken}
+use Rattle.text.specs.declared.Ended.{Ended}
+use Rattle.text.specs.declared.Ended.the-variants.{Value, Uncaught, Spent, Deep}
+
+-- The decimal digits of n, at most k and one more; 48 is `0`.
+unfoldable pub digits : ℕ → ℕ → List ℕ
+digits zero n = (48 + n % 10) ∷ []
+digits (suc k) n = cond (ltb n 10) ((48 + n) ∷ []) (digits k (n / 10) ++ ((48 + n % 10) ∷ []))
+
+-- A number in decimal. A 64-bit number has at most 20 digits.
+unfoldable pub decimal : ℕ → List ℕ
+decimal n = digits 19 n
+
+-- A value in decimal, `-` (45) before a negative one.
+unfoldable pub signed : ℤ → List ℕ
+signed (pos n) = decimal n
+signed (negsuc n) = 45 ∷ decimal (suc n)
+
+-- A word and a number behind it.
+unfoldable pub numbered : List ℕ → ℕ → List ℕ
+numbered word n = word ++ decimal n
+
+-- `value `
+abbrev pub valueWord : List ℕ
+valueWord = 118 ∷ 97 ∷ 108 ∷ 117 ∷ 101 ∷ 32 ∷ []
+
+-- `uncaught`
+abbrev pub uncaughtWord : List ℕ
+uncaughtWord = 117 ∷ 110 ∷ 99 ∷ 97 ∷ 117 ∷ 103 ∷ 104 ∷ 116 ∷ []
+
+-- `spent`
+abbrev pub spentWord : List ℕ
+spentWord = 115 ∷ 112 ∷ 101 ∷ 110 ∷ 116 ∷ []
+
+-- `deep`
+abbrev pub deepWord : List ℕ
+deepWord = 100 ∷ 101 ∷ 101 ∷ 112 ∷ []
+
+-- ` steps `
+abbrev pub stepsWord : List ℕ
+stepsWord = 32 ∷ 115 ∷ 116 ∷ 101 ∷ 112 ∷ 115 ∷ 32 ∷ []
+
+-- `target `
+abbrev pub targetWord : List ℕ
+targetWord = 116 ∷ 97 ∷ 114 ∷ 103 ∷ 101 ∷ 116 ∷ 32 ∷ []
+
+-- `bench`
+abbrev pub benchWord : List ℕ
+benchWord = 98 ∷ 101 ∷ 110 ∷ 99 ∷ 104 ∷ []
+
+-- `controller`
+abbrev pub controllerWord : List ℕ
+controllerWord = 99 ∷ 111 ∷ 110 ∷ 116 ∷ 114 ∷ 111 ∷ 108 ∷ 108 ∷ 101 ∷ 114 ∷ []
+
+-- `refused `
+abbrev pub refusedWord : List ℕ
+refusedWord = 114 ∷ 101 ∷ 102 ∷ 117 ∷ 115 ∷ 101 ∷ 100 ∷ 32 ∷ []
+
+-- ` at `
+abbrev pub atWord : List ℕ
+atWord = 32 ∷ 97 ∷ 116 ∷ 32 ∷ []
+
+-- A space.
+abbrev pub space : List ℕ
+space = 32 ∷ []
+
+-- The end of a line.
+abbrev pub newline : List ℕ
+newline = 10 ∷ []
+
+-- How a run stopped: `value` and its number, "Other ends print `uncaught`, `spent` or `deep`". A run of a checked file is never broken.
+unfoldable pub stopText : Stop (Unit {0}) → List ℕ
+stopText (ended (value z)) = valueWord ++ signed z
+stopText (ended uncaught) = uncaughtWord
+stopText (spent u) = spentWord
+stopText (deep u) = deepWord
+stopText (broken u) = []
+
+-- A machine's end and steps.
+unfoldable pub machineLine : List ℕ → Stop (Unit {0}) → ℕ → List ℕ
+machineLine name stop steps = name ++ space ++ stopText stop ++ numbered stepsWord steps ++ newline
+
+-- The count of the translation's bytes.
+unfoldable pub targetLine : ℕ → List ℕ
+targetLine n = numbered targetWord n ++ newline
+
+-- "it prints the translation's bytes, then each machine's end and steps"
+unfoldable pub bothText : ℕ → Stop (Unit {0}) → ℕ → Stop (Unit {0}) → ℕ → List ℕ
+bothText n bstop bsteps cstop csteps = targetLine n ++ machineLine benchWord bstop bsteps ++ machineLine controllerWord cstop csteps
+
+-- "A refusal prints only `refused`, number, `at`, place."
+unfoldable pub refusedText : ℕ → ℕ → List ℕ
+refusedText number place = numbered refusedWord number ++ numbered atWord place ++ newline
+
+-- "Input ending inside the first four fields prints `no header`."
+abbrev pub noHeaderText : List ℕ
+noHeaderText = 110 ∷ 111 ∷ 32 ∷ 104 ∷ 101 ∷ 97 ∷ 100 ∷ 101 ∷ 114 ∷ 10 ∷ []
+
+-- How a run stopped, as the code tells it.
+unfoldable pub endedAs : Ended → Stop (Unit {0})
+endedAs (Value z) = ended (value z)
+endedAs Uncaught = ended uncaught
+endedAs Spent = spent tt
+endedAs Deep = deep tt

@@ -1,0 +1,169 @@
+// The lines that program `both` prints, written into lent bytes.
+ghost use Prim.Native.Nat.{_+_, _≤_, _<_};
+ghost use mathlib.Core.List.{[], _∷_};
+ghost use mathlib.Core.Path.{_≡_};
+ghost use lib.IntN.{natAbs};
+ghost use lib.ListN.{length};
+ghost use Rattle.text.specs.Text.{digits, decimal, signed, numbered, stopText, machineLine, targetLine, bothText, refusedText, noHeaderText, endedAs};
+ghost use Rattle.text.specs.Wrote.{Wrote};
+
+// How a run stopped.
+pub enum Ended {
+    Value(i32),
+    Uncaught,
+    Spent,
+    Deep,
+}
+
+// A word.
+pub fn put_bytes(out: &mut [u8], at: usize, word: &[u8]) -> usize
+    requires { ⌜ at + length (now word) ≤ length (now out) ⌝ }
+    ensures { λ r. ⌜ Wrote at (now (word .entry)) (now (out .entry)) r (now (out .exit)) ⌝ }
+{
+    let mut i = 0;
+    while i < word.len() {
+        let target = at + i;
+        out[target] = word[i];
+        i += 1;
+    }
+    at + word.len()
+}
+
+// One digit.
+fn put_digit(out: &mut [u8], at: usize, n: u64) -> usize
+    requires { ⌜ (at < length (now out)) × (n < 10) ⌝ }
+    ensures { λ r. ⌜ Wrote at ((48 + n) ∷ []) (now (out .entry)) r (now (out .exit)) ⌝ }
+{
+    let digit = 48 + n;
+    out[at] = digit as u8;
+    at + 1
+}
+
+// The digits of n, at most k and one more.
+fn put_digits(out: &mut [u8], at: usize, k: usize, n: u64) -> usize
+    requires { ⌜ at + (k + 1) ≤ length (now out) ⌝ }
+    ensures { λ r. ⌜ Wrote at (digits k n) (now (out .entry)) r (now (out .exit)) ⌝ }
+{
+    if k == 0 {
+        return put_digit(out, at, n % 10);
+    }
+    if n < 10 {
+        return put_digit(out, at, n);
+    }
+    let less = k - 1;
+    let next = put_digits(out, at, less, n / 10);
+    put_digit(out, next, n % 10)
+}
+
+// A number in decimal.
+pub fn put_decimal(out: &mut [u8], at: usize, n: u64) -> usize
+    requires { ⌜ at + 20 ≤ length (now out) ⌝ }
+    ensures { λ r. ⌜ Wrote at (decimal n) (now (out .entry)) r (now (out .exit)) ⌝ }
+{
+    put_digits(out, at, 19, n)
+}
+
+// A value without its sign.
+pub fn magnitude(v: i32) -> u64
+    ensures { λ r. ⌜ r ≡ natAbs v ⌝ }
+{
+    if v < 0 {
+        let wide = 0 - (v as i64);
+        return wide as u64;
+    }
+    v as u64
+}
+
+// A value in decimal.
+pub fn put_signed(out: &mut [u8], at: usize, v: i32) -> usize
+    requires { ⌜ at + 21 ≤ length (now out) ⌝ }
+    ensures { λ r. ⌜ Wrote at (signed v) (now (out .entry)) r (now (out .exit)) ⌝ }
+{
+    let n = magnitude(v);
+    if v < 0 {
+        let next = put_bytes(out, at, b"-");
+        return put_decimal(out, next, n);
+    }
+    put_decimal(out, at, n)
+}
+
+// A word and a number behind it.
+fn put_numbered(out: &mut [u8], at: usize, word: &[u8], n: u64) -> usize
+    requires { ⌜ at + length (now word) + 20 ≤ length (now out) ⌝ }
+    ensures { λ r. ⌜ Wrote at (numbered (now (word .entry)) n) (now (out .entry)) r (now (out .exit)) ⌝ }
+{
+    let next = put_bytes(out, at, word);
+    put_decimal(out, next, n)
+}
+
+// How a run stopped.
+fn put_ended(out: &mut [u8], at: usize, e: Ended) -> usize
+    requires { ⌜ at + 27 ≤ length (now out) ⌝ }
+    ensures { λ r. ⌜ Wrote at (stopText (endedAs e)) (now (out .entry)) r (now (out .exit)) ⌝ }
+{
+    match e {
+        Ended::Value(v) => {
+            let next = put_bytes(out, at, b"value ");
+            put_signed(out, next, v)
+        }
+        Ended::Uncaught => put_bytes(out, at, b"uncaught"),
+        Ended::Spent => put_bytes(out, at, b"spent"),
+        Ended::Deep => put_bytes(out, at, b"deep"),
+    }
+}
+
+// A machine's end and steps.
+pub fn put_machine(out: &mut [u8], at: usize, name: &[u8], e: Ended, steps: u64) -> usize
+    requires { ⌜ at + length (now name) + 56 ≤ length (now out) ⌝ }
+    ensures { λ r. ⌜ Wrote at (machineLine (now (name .entry)) (endedAs e) steps) (now (out .entry)) r (now (out .exit)) ⌝ }
+{
+    let named = put_bytes(out, at, name);
+    let spaced = put_bytes(out, named, b" ");
+    let told = put_ended(out, spaced, e);
+    let counted = put_numbered(out, told, b" steps ", steps);
+    put_bytes(out, counted, b"\n")
+}
+
+// The count of the translation's bytes.
+fn put_target(out: &mut [u8], at: usize, n: u64) -> usize
+    requires { ⌜ at + 28 ≤ length (now out) ⌝ }
+    ensures { λ r. ⌜ Wrote at (targetLine n) (now (out .entry)) r (now (out .exit)) ⌝ }
+{
+    let next = put_numbered(out, at, b"target ", n);
+    put_bytes(out, next, b"\n")
+}
+
+// The three lines of a run of both machines.
+pub fn write_both(
+    out: &mut [u8],
+    target: u64,
+    b: Ended,
+    bsteps: u64,
+    c: Ended,
+    csteps: u64,
+) -> usize
+    requires { ⌜ 256 ≤ length (now out) ⌝ }
+    ensures { λ r. ⌜ Wrote 0 (bothText target (endedAs b) bsteps (endedAs c) csteps) (now (out .entry)) r (now (out .exit)) ⌝ }
+{
+    let first = put_target(out, 0, target);
+    let second = put_machine(out, first, b"bench", b, bsteps);
+    put_machine(out, second, b"controller", c, csteps)
+}
+
+// The line of a refusal.
+pub fn write_refused(out: &mut [u8], number: u64, place: u64) -> usize
+    requires { ⌜ 256 ≤ length (now out) ⌝ }
+    ensures { λ r. ⌜ Wrote 0 (refusedText number place) (now (out .entry)) r (now (out .exit)) ⌝ }
+{
+    let first = put_numbered(out, 0, b"refused ", number);
+    let second = put_numbered(out, first, b" at ", place);
+    put_bytes(out, second, b"\n")
+}
+
+// The line of an input that ends inside its first four fields.
+pub fn write_no_header(out: &mut [u8]) -> usize
+    requires { ⌜ 256 ≤ length (now out) ⌝ }
+    ensures { λ r. ⌜ Wrote 0 noHeaderText (now (out .entry)) r (now (out .exit)) ⌝ }
+{
+    put_bytes(out, 0, b"no header\n")
+}
