@@ -1,0 +1,33 @@
+-- `translator::jumps::put_label_jump` meets its contract.
+
+-- `translator::jumps::put_label_jump` meets its contract.
+use Rattle.translator.specs.WriteLaws.{room-front, room-back, wrote-both}
+use Rattle.translator.specs.Bytes.{jumpHead, labelJump}
+use Rattle.semantics.specs.Translation.{slotsFrom}
+use Prim.Native.Nat.{_+_}
+use native.Mathlib.Omega.{arith}
+use borrow.Author.Needs.{needs}
+use Rattle.translator.proofs.jumps.put_label_jump.Statement.{statement}
+use Rattle.translator.proofs.jumps.put_label_jump.Tie as tie
+
+add-g : tie.Need-add-g
+add-g c = search needs
+
+put-jump-head-requires : tie.Need-put-jump-head-requires
+unfolding labelJump
+put-jump-head-requires c κs = (omega arith, room-front (jumpHead (c .before .before .args .base + c .before .before .args .l) 0 1 (c .before .before .args .v)) (slotsFrom 2 (c .before .before .args .v)) (c .before .before .pre .1))
+
+put-slots-requires : tie.Need-put-slots-requires
+unfolding labelJump
+put-slots-requires c κs = (omega (arith, c .before .before .before .before .before .before .pre .0 .1), room-back (jumpHead (c .before .before .before .before .before .before .args .base + c .before .before .before .before .before .before .args .l) 0 1 (c .before .before .before .before .before .before .args .v)) (slotsFrom 2 (c .before .before .before .before .before .before .args .v)) (c .before .before .before .before .before .before .pre .1) (c .before .before .before .put-jump-head .ensures))
+
+same-length : tie.Need-same-length
+same-length c = search needs
+
+returns : tie.Need-returns
+unfolding labelJump
+returns c = wrote-both (jumpHead (c .before .before .before .before .before .before .before .before .before .args .base + c .before .before .before .before .before .before .before .before .before .args .l) 0 1 (c .before .before .before .before .before .before .before .before .before .args .v)) (slotsFrom 2 (c .before .before .before .before .before .before .before .before .before .args .v)) (c .before .before .before .before .before .before .before .before .before .pre .1) (c .before .before .before .before .before .before .put-jump-head .ensures) (c .before .before .put-slots .ensures)
+
+pub put-label-jump-spec : {M : Type 1} → statement M
+put-label-jump-spec =
+    tie.close (tie.spec add-g put-jump-head-requires put-slots-requires same-length returns)

@@ -1,0 +1,71 @@
+-- `translator::sizes::block_size` meets its contract.
+use Rattle.translator.specs.BlockLaws.{Counting, count-none, count-asks, count-low, count-next, count-moves, count-done, count-never}
+use lib.ListN.{length}
+use Prim.Native.Nat.{_-_}
+use native.Mathlib.Omega.{arith}
+use borrow.Author.Needs.{needs}
+use Rattle.translator.proofs.sizes.block_size.Statement.{statement}
+use Rattle.translator.proofs.sizes.block_size.Tie as tie
+use Rattle.procedure_layout.proofs.layout.after_of.Reads as after-of-reads
+use Rattle.procedure_layout.proofs.operation.operation_at.Reads as operation-at-reads
+
+abbrev Inv-loop : tie.InvT-loop
+Inv-loop file v h start at₀ n₀ at n = Counting file v h start at n
+
+abbrev μ-loop : tie.MeasureT-loop
+μ-loop file v h start at₀ n₀ at n = length file - at
+
+loop-holds : tie.Need-loop-holds Inv-loop μ-loop
+loop-holds c = count-none (c .before .pre)
+
+operation-at-requires : tie.Need-operation-at-requires Inv-loop μ-loop
+operation-at-requires c κs = tt
+
+operation-size-requires : tie.Need-operation-size-requires Inv-loop μ-loop
+operation-size-requires c κs = count-asks (c .before .loop .inv) (c .operation-at .ensures)
+
+add-n : tie.Need-add-n Inv-loop μ-loop
+add-n c = omega (arith, count-low (c .before .before .loop .inv) (c .before .operation-at .ensures), c .operation-size .ensures .1)
+
+after-of-requires : tie.Need-after-of-requires Inv-loop μ-loop
+after-of-requires c κs = search needs
+
+enum-known-next : tie.Need-enum-known-next Inv-loop μ-loop
+enum-known-next c = search needs
+
+loop-less : tie.Need-loop-less Inv-loop μ-loop
+loop-less c = let m = count-moves (c .before .before .before .before .before .before .loop .inv) (c .before .before .before .before .before .operation-at .ensures) (c .before .before .before .before .operation-size .ensures .0) (c .before .before .before .before .operation-size .ensures .1) (c .before .before .before .after-of .ensures) (c .before .next .given .1) in omega (arith, m .0, m .1)
+
+loop-again : tie.Need-loop-again Inv-loop μ-loop
+loop-again c = count-next (c .before .before .before .before .before .before .loop .inv) (c .before .before .before .before .before .operation-at .ensures) (c .before .before .before .before .operation-size .ensures .0) (c .before .before .before .before .operation-size .ensures .1) (c .before .before .before .after-of .ensures) (c .before .next .given .1)
+
+enum-told : tie.Need-enum-told Inv-loop μ-loop
+enum-told c = search needs
+
+returns : tie.Need-returns Inv-loop μ-loop
+returns c = count-done (c .before .before .before .before .before .loop .inv) (c .before .before .before .before .operation-at .ensures) (c .before .before .before .operation-size .ensures .0) (c .before .before .before .operation-size .ensures .1) (c .before .before .after-of .ensures) (c .enum-told .given .1)
+
+enum-told-2 : tie.Need-enum-told-2 Inv-loop μ-loop
+enum-told-2 c = search needs
+
+returns-2 : tie.Need-returns-2 Inv-loop μ-loop
+returns-2 c = count-never (c .before .before .before .before .before .loop .inv) (c .before .before .before .before .operation-at .ensures) (c .before .before .before .operation-size .ensures .0) (c .before .before .before .operation-size .ensures .1) (c .before .before .after-of .ensures) (c .enum-told2 .given .1)
+
+pub block-size-spec : {M : Type 1} → statement M
+block-size-spec =
+    tie.close
+    (tie.spec
+    Inv-loop
+    μ-loop
+    loop-holds
+    operation-at-requires
+    operation-size-requires
+    add-n
+    after-of-requires
+    enum-known-next
+    loop-less
+    loop-again
+    enum-told
+    returns
+    enum-told-2
+    returns-2)

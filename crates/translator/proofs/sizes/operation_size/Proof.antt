@@ -1,0 +1,100 @@
+-- `translator::sizes::operation_size` meets its contract.
+use Rattle.translator.specs.Bytes.{operationSize}
+use Rattle.translator.specs.Ready.{Few}
+use mathlib.Core.Path.{sym, ap, _∙_, subst}
+use borrow.Author.Needs.{needs}
+use Rattle.translator.proofs.sizes.operation_size.Statement.{statement}
+use Rattle.translator.proofs.sizes.operation_size.Tie as tie
+
+enum-told : tie.Need-enum-told
+enum-told c = search needs
+
+enum-told-2 : tie.Need-enum-told-2
+enum-told-2 c = search needs
+
+enum-told-3 : tie.Need-enum-told-3
+enum-told-3 c = search needs
+
+enum-known-x : tie.Need-enum-known-x
+enum-known-x c = search needs
+
+call-size-requires : tie.Need-call-size-requires
+call-size-requires c κs = (c .before .before .before .pre .0, subst Few (c .before .x .given .1) (c .before .before .before .pre .1))
+
+enum-told-4 : tie.Need-enum-told-4
+enum-told-4 c = search needs
+
+goto-size-requires : tie.Need-goto-size-requires
+goto-size-requires c κs = search needs
+
+enum-told-5 : tie.Need-enum-told-5
+enum-told-5 c = search needs
+
+enum-told-6 : tie.Need-enum-told-6
+enum-told-6 c = search needs
+
+branch-size-requires : tie.Need-branch-size-requires
+branch-size-requires c κs = search needs
+
+enum-told-7 : tie.Need-enum-told-7
+enum-told-7 c = search needs
+
+raise-size-requires : tie.Need-raise-size-requires
+raise-size-requires c κs = search needs
+
+enum-told-8 : tie.Need-enum-told-8
+enum-told-8 c = search needs
+
+returns : tie.Need-returns
+returns c = search needs
+
+returns-2 : tie.Need-returns-2
+returns-2 c = search needs
+
+returns-3 : tie.Need-returns-3
+returns-3 c = search needs
+
+returns-4 : tie.Need-returns-4
+returns-4 c = (c .call-size .ensures .0 ∙ sym (ap (operationSize (c .before .before .before .before .args .v) (c .before .before .before .before .args .h)) (c .before .before .x .given .1)), c .call-size .ensures .1)
+
+returns-5 : tie.Need-returns-5
+returns-5 c = (c .goto-size .ensures .0 ∙ sym (ap (operationSize (c .before .before .before .args .v) (c .before .before .before .args .h)) (c .before .enum-told4 .given .1)), c .goto-size .ensures .1)
+
+returns-6 : tie.Need-returns-6
+returns-6 c = search needs
+
+returns-7 : tie.Need-returns-7
+returns-7 c = (c .branch-size .ensures .0 ∙ sym (ap (operationSize (c .before .before .before .args .v) (c .before .before .before .args .h)) (c .before .enum-told6 .given .1)), c .branch-size .ensures .1)
+
+returns-8 : tie.Need-returns-8
+returns-8 c = (c .raise-size .ensures .0 ∙ sym (ap (operationSize (c .before .before .before .args .v) (c .before .before .before .args .h)) (c .before .enum-told7 .given .1)), c .raise-size .ensures .1)
+
+returns-9 : tie.Need-returns-9
+returns-9 c = search needs
+
+pub operation-size-spec : {M : Type 1} → statement M
+operation-size-spec =
+    tie.close
+    (tie.spec
+    enum-told
+    enum-told-2
+    enum-told-3
+    enum-known-x
+    call-size-requires
+    enum-told-4
+    goto-size-requires
+    enum-told-5
+    enum-told-6
+    branch-size-requires
+    enum-told-7
+    raise-size-requires
+    enum-told-8
+    returns
+    returns-2
+    returns-3
+    returns-4
+    returns-5
+    returns-6
+    returns-7
+    returns-8
+    returns-9)

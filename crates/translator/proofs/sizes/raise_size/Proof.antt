@@ -1,0 +1,18 @@
+-- `translator::sizes::raise_size` meets its contract.
+use Rattle.translator.specs.SizeLaws.{uncaught-sum, caught-sum}
+use native.Mathlib.Omega.{arith}
+use borrow.Author.Needs.{needs}
+use Rattle.translator.proofs.sizes.raise_size.Statement.{statement}
+use Rattle.translator.proofs.sizes.raise_size.Tie as tie
+
+jump-size-requires : tie.Need-jump-size-requires
+jump-size-requires c κs = search needs
+
+returns : tie.Need-returns
+returns c = (uncaught-sum (c .before .before .args .v) (c .before .before .args .h) (c .if1 .taken), omega arith)
+
+returns-2 : tie.Need-returns-2
+returns-2 c = (caught-sum (c .before .before .args .v) (c .before .before .args .h) (c .if1 .left) (c .before .jump-size .ensures), omega (arith, c .before .jump-size .ensures, c .before .before .pre))
+
+pub raise-size-spec : {M : Type 1} → statement M
+raise-size-spec = tie.close (tie.spec jump-size-requires returns returns-2)

@@ -1,0 +1,170 @@
+-- The turns of the loops over a block's operations: writing, and counting.
+use Prim.Native.Nat.{ℕ, zero, suc, _+_, _*_, _≤_, _<_}
+use native.Mathlib.Omega.{arith}
+use mathlib.Core.Path.{_≡_, refl, sym, ap, _∙_, subst}
+use mathlib.Core.List.{List, [], _∷_, _++_, append-nil}
+use lib.ListN.{length, getD, length-append}
+use Rattle.parsing.specs.declared.Refusal.{Refusal}
+use lib.IntN.{ℤ}
+use Rattle.parsing.specs.Fields.{valueAt}
+use Rattle.parsing.specs.Bytes.{valueBytes}
+use Rattle.semantics.specs.Translation.{number}
+use Rattle.procedure_layout.specs.declared.operation.Operation.{Operation}
+use Rattle.procedure_layout.specs.declared.operation.Operation.the-variants.{Constant, Copy, Difference, Call, Goto, Return, Branch, Raise, Refused}
+use Rattle.procedure_layout.specs.declared.layout.After.{After}
+use Rattle.procedure_layout.specs.declared.layout.After.the-variants.{Onward, Ended, Halted}
+use Rattle.procedure_layout.specs.Operation.{operationAt}
+use Rattle.procedure_layout.specs.After.{afterOf}
+use Rattle.procedure_file.specs.Check.{programOf}
+use Rattle.translator.specs.Bytes.{tabled, operationBytes, operationSize}
+use Rattle.translator.specs.Parts.{bytesAt}
+use Rattle.translator.specs.Writes.{Room, Wrote}
+use Rattle.translator.specs.WriteLaws.{Rest, rest-none, rest-as, rest-room, rest-more, rest-done, room-front}
+use Rattle.translator.specs.Ready.{Here, Numbered, Placed, Few, BlockSize}
+use Rattle.translator.specs.OperationLaws.{Fine, few-variables, within, fine, few-of, operation-size, same-numbers, following, split-at}
+
+-- An operation does not end the block: the next one stands where it leads.
+pub goes-on : {s : List ℕ} {v at m : ℕ} → Here s v at → afterOf (operationAt s at) ≡ Onward m → Here s v m
+goes-on {s} {v} {at} {m} H e = record { facts = H .facts; function = H .function; stands = H .facts .next (H .function) at m (H .stands) e; vars = H .vars }
+
+pub never-halts : {s : List ℕ} {v at : ℕ} {r : Refusal} {A : Type 0} → Here s v at → afterOf (operationAt s at) ≡ Halted r → A
+never-halts {s} {v} {at} {r} {A} H e = go (operationAt s at) (fine H) e
+  where
+    go : (o : Operation) → Fine s at o → afterOf o ≡ Halted r → A
+    go (Constant x i next) f q = let z : _≡_ {A = ℕ} 0 1 = cc in absurd (omega arith)
+    go (Copy x y next) f q = let z : _≡_ {A = ℕ} 0 1 = cc in absurd (omega arith)
+    go (Difference x y z next) f q = let z : _≡_ {A = ℕ} 0 1 = cc in absurd (omega arith)
+    go (Call x g n next) f q = let z : _≡_ {A = ℕ} 0 1 = cc in absurd (omega arith)
+    go (Goto l next) f q = let z : _≡_ {A = ℕ} 0 1 = cc in absurd (omega arith)
+    go (Return x next) f q = let z : _≡_ {A = ℕ} 0 1 = cc in absurd (omega arith)
+    go (Branch y z l m next) f q = let z : _≡_ {A = ℕ} 0 1 = cc in absurd (omega arith)
+    go (Raise next) f q = let z : _≡_ {A = ℕ} 0 1 = cc in absurd (omega arith)
+    go (Refused r) f q = absurd f
+
+-- Writing a block: after some operations.
+pub record Turn (s ns : List ℕ) (base v h start o₀ : ℕ) (d₀ : List ℕ) (at o : ℕ) (d : List ℕ) : Type 0 where
+  pub placed : Placed s ns base v at
+  pub rest : Rest o₀ (bytesAt s base v h start) d₀ o (bytesAt s base v h at) d
+
+pub turn-none : {s ns : List ℕ} {base v h start o : ℕ} {d : List ℕ} → Placed s ns base v start → Room o (bytesAt s base v h start) d
+    → Turn s ns base v h start o d start o d
+turn-none P R = record { placed = P; rest = rest-none R }
+
+module _ {s ns : List ℕ} {base v h start o₀ : ℕ} {d₀ : List ℕ} {at o : ℕ} {d : List ℕ} (T : Turn s ns base v h start o₀ d₀ at o d)
+    {x : Operation} (e : x ≡ operationAt s at) where
+  -- What the operation becomes, and what follows.
+  parts : bytesAt s base v h at ≡ operationBytes (tabled ns) base v h s at x ++ following (afterOf (operationAt s at)) (λ m. bytesAt s base v h m)
+  parts =
+      let H = T .placed .here in
+      split-at base h H
+      ∙ (ap (λ (w : List ℕ). w ++ following (afterOf (operationAt s at)) (λ m. bytesAt s base v h m)) (sym (same-numbers s ns (T .placed .numbered) base v h at (operationAt s at) (fine H)))
+      ∙ ap (λ (y : Operation). operationBytes (tabled ns) base v h s at y ++ following (afterOf (operationAt s at)) (λ m. bytesAt s base v h m)) (sym e))
+
+  pub turn-room : Room o (operationBytes (tabled ns) base v h s at x) d
+  turn-room = room-front (operationBytes (tabled ns) base v h s at x) (following (afterOf (operationAt s at)) (λ m. bytesAt s base v h m)) (rest-as (T .rest) _ parts)
+
+  module _ {r : ℕ} {d′ : List ℕ} (W : Wrote o (operationBytes (tabled ns) base v h s at x) d r d′) {a : After} (ea : a ≡ afterOf x) where
+    after-is : afterOf (operationAt s at) ≡ a
+    after-is = ap afterOf (sym e) ∙ sym ea
+
+    rest-is : Rest o₀ (bytesAt s base v h start) d₀ r (following a (λ m. bytesAt s base v h m)) d′
+    rest-is =
+        subst (λ (b : After). Rest o₀ (bytesAt s base v h start) d₀ r (following b (λ m. bytesAt s base v h m)) d′) after-is
+        (rest-more (T .rest) (operationBytes (tabled ns) base v h s at x) (following (afterOf (operationAt s at)) (λ m. bytesAt s base v h m)) parts W)
+
+    pub turn-next : {m : ℕ} → a ≡ Onward m → Turn s ns base v h start o₀ d₀ m r d′
+    turn-next {m} q =
+        record {
+          placed = record { here = goes-on (T .placed .here) (after-is ∙ q); numbered = T .placed .numbered; low = T .placed .low };
+          rest = subst (λ (b : After). Rest o₀ (bytesAt s base v h start) d₀ r (following b (λ k. bytesAt s base v h k)) d′) q rest-is;
+        }
+
+    pub turn-moves : {m : ℕ} → a ≡ Onward m → (at < m) × (m ≤ length s)
+    turn-moves {m} q = let H = T .placed .here in H .facts .forward (H .function) at m (H .stands) (after-is ∙ q)
+
+    pub turn-done : {m : ℕ} → a ≡ Ended m → Wrote o₀ (bytesAt s base v h start) d₀ r d′
+    turn-done {m} q =
+        rest-done (subst (λ (b : After). Rest o₀ (bytesAt s base v h start) d₀ r (following b (λ k. bytesAt s base v h k)) d′) q rest-is) refl
+
+    pub turn-never : {f : Refusal} {A : Type 0} → a ≡ Halted f → A
+    turn-never q = never-halts (T .placed .here) (after-is ∙ q)
+
+-- Counting a block: n bytes for the operations passed.
+pub record Counting (s : List ℕ) (v h start at n : ℕ) : Type 0 where
+  pub here : Here s v at
+  pub is : (base : ℕ) → n + length (bytesAt s base v h at) ≡ length (bytesAt s base v h start)
+  pub few : n ≤ 128 * at
+
+pub count-none : {s : List ℕ} {v h start : ℕ} → Here s v start → Counting s v h start start 0
+count-none {s} {v} {h} {start} H = record { here = H; is = λ base. omega arith; few = omega arith }
+
+module _ {s : List ℕ} {v h start at n : ℕ} (T : Counting s v h start at n) {x : Operation} (e : x ≡ operationAt s at) where
+  pub count-asks : (v ≤ 32) × Few x
+  count-asks = (few-variables (T .here), subst Few (sym e) (few-of s at (operationAt s at) (fine (T .here))))
+
+  pub count-low : n ≤ 4194304
+  count-low =
+      let k : n ≤ 128 * at = T .few in
+      let i : at < length s = within (T .here) in
+      let j : length s ≤ 32768 = T .here .facts .short in
+      omega arith
+
+  module _ {k : ℕ} (ek : k ≡ operationSize v h x) (low : k ≤ 128) {a : After} (ea : a ≡ afterOf x) where
+    after-was : afterOf (operationAt s at) ≡ a
+    after-was = ap afterOf (sym e) ∙ sym ea
+
+    sizes-are : (base : ℕ) → n + k + length (following a (λ m. bytesAt s base v h m)) ≡ length (bytesAt s base v h start)
+    sizes-are base =
+        let H = T .here in
+        let w = operationBytes (number (programOf s)) base v h s at (operationAt s at) in
+        let rest = following (afterOf (operationAt s at)) (λ m. bytesAt s base v h m) in
+        let p : length (bytesAt s base v h at) ≡ length w + length rest = ap length (split-at base h H) ∙ length-append w rest in
+        let q : length w ≡ k = operation-size (number (programOf s)) base v h s at (operationAt s at) (fine H) ∙ (ap (operationSize v h) (sym e) ∙ sym ek) in
+        let t : n + length (bytesAt s base v h at) ≡ length (bytesAt s base v h start) = T .is base in
+        let u : length rest ≡ length (following a (λ m. bytesAt s base v h m)) = ap (λ (b : After). length (following b (λ m. bytesAt s base v h m))) after-was in
+        omega arith
+
+    pub count-next : {m : ℕ} → a ≡ Onward m → Counting s v h start m (n + k)
+    count-next {m} q =
+        let H = T .here in
+        let f = H .facts .forward (H .function) at m (H .stands) (after-was ∙ q) in
+        let j : at < m = f .0 in
+        let g : n ≤ 128 * at = T .few in
+        record {
+          here = goes-on H (after-was ∙ q);
+          is = λ base. subst (λ (b : After). n + k + length (following b (λ i. bytesAt s base v h i)) ≡ length (bytesAt s base v h start)) q (sizes-are base);
+          few = omega arith;
+        }
+
+    pub count-moves : {m : ℕ} → a ≡ Onward m → (at < m) × (m ≤ length s)
+    count-moves {m} q = let H = T .here in H .facts .forward (H .function) at m (H .stands) (after-was ∙ q)
+
+    pub count-done : {m : ℕ} → a ≡ Ended m → BlockSize s v h start (n + k)
+    count-done {m} q =
+        let g : n ≤ 128 * at = T .few in
+        let i : at < length s = within (T .here) in
+        let j : length s ≤ 32768 = T .here .facts .short in
+        record {
+          is = λ base.
+              let t : n + k + 0 ≡ length (bytesAt s base v h start) = subst (λ (b : After). n + k + length (following b (λ i. bytesAt s base v h i)) ≡ length (bytesAt s base v h start)) q (sizes-are base) in
+              omega arith;
+          few = omega arith;
+        }
+
+    pub count-never : {f : Refusal} {A : Type 0} → a ≡ Halted f → A
+    count-never q = never-halts (T .here) (after-was ∙ q)
+
+-- The arm of an operation.
+pub arm-fine : {s ns : List ℕ} {base v at : ℕ} {x y : Operation} → Placed s ns base v at → x ≡ operationAt s at → x ≡ y → Fine s at y
+arm-fine {s} {at = at} P e q = subst (Fine s at) (sym e ∙ q) (fine (P .here))
+
+module _ (s ns : List ℕ) (base v h at : ℕ) {x y : Operation} (q : x ≡ y) where
+  pub arm-room : {o : ℕ} {d : List ℕ} → Room o (operationBytes (tabled ns) base v h s at x) d → Room o (operationBytes (tabled ns) base v h s at y) d
+  arm-room {o} {d} R = subst (λ (z : Operation). Room o (operationBytes (tabled ns) base v h s at z) d) q R
+
+  pub arm-wrote : {o r : ℕ} {d d′ : List ℕ} → Wrote o (operationBytes (tabled ns) base v h s at y) d r d′ → Wrote o (operationBytes (tabled ns) base v h s at x) d r d′
+  arm-wrote {o} {r} {d} {d′} W = subst (λ (z : Operation). Wrote o (operationBytes (tabled ns) base v h s at z) d r d′) (sym q) W
+
+-- The bytes of a constant's value stand in the file.
+pub constant-bytes : (s : List ℕ) (at x : ℕ) {i : ℤ} → i ≡ valueAt s (at + 2) → _≡_ {A = List ℕ} ((1 ∷ (x + 2) ∷ []) ++ valueBytes i) ((1 ∷ (x + 2) ∷ []) ++ valueBytes (valueAt s (at + 2)))
+constant-bytes s at x e = ap (λ (z : ℤ). (1 ∷ (x + 2) ∷ []) ++ valueBytes z) e

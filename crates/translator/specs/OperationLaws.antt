@@ -1,0 +1,197 @@
+-- What stands at an offset of an accepted file: its ranges, and the bytes that it becomes before the rest of its block.
+use Prim.Native.Nat.{ℕ, zero, suc, _+_, _*_, _≤_, _<_}
+use native.Mathlib.Omega.{arith}
+use mathlib.Core.Path.{_≡_, refl, sym, ap, _∙_, subst}
+use mathlib.Core.List.{List, [], _∷_, _++_, map, append-assoc, append-nil}
+use mathlib.Core.Option.{some}
+use lib.ListN.{length, getD, take, drop, getElem?, length-append}
+use Rattle.parsing.specs.declared.Refusal.{Refusal}
+use Rattle.parsing.specs.Fields.{valueAt}
+use Rattle.parsing.specs.Bytes.{pairBytes, valueBytes}
+use Rattle.semantics.specs.Program.{Block, constant, copy, difference, call, goto, return, branch, raise, Function, Program, variables, functionOf}
+use Rattle.semantics.specs.WellFormed.{All, WellFormedBlock}
+use Rattle.semantics.specs.ListLaws.{all-at}
+use Rattle.semantics.specs.Code.{jump, ifAtMost}
+use Rattle.semantics.specs.Translation.{slotOf, slotsFrom, toLabel, code, number}
+use Rattle.procedure_layout.specs.declared.operation.Operation.{Operation}
+use Rattle.procedure_layout.specs.declared.operation.Operation.the-variants.{Constant, Copy, Difference, Call, Goto, Return, Branch, Raise, Refused}
+use Rattle.procedure_layout.specs.declared.layout.After.{After}
+use Rattle.procedure_layout.specs.declared.layout.After.the-variants.{Onward, Ended, Halted}
+use Rattle.procedure_layout.specs.Operation.{operationAt}
+use Rattle.procedure_layout.specs.Layout.{argumentsAt}
+use Rattle.procedure_layout.specs.Rest.{restFrom, restAt}
+use Rattle.procedure_layout.specs.After.{afterOf}
+use Rattle.procedure_layout.specs.ViewLaws.{View, isConstant, isCopy, isDifference, isCall, isGoto, isReturn, isBranch, isRaise, isRefused, view}
+use Rattle.procedure_file.specs.Check.{programOf}
+use Rattle.procedure_file.specs.Facts.{Facts, Stands, Counts}
+use Rattle.target_file.specs.Writing.{size, exprBytes}
+use Rattle.translator.specs.Bytes.{tabled, jumpHead, labelJump, callJump, plainCall, guardedCall, branchBytes, raiseBytes, callBytes, operationBytes, operationSize}
+use Rattle.translator.specs.Parts.{bodyAt, bytesAt}
+use Rattle.translator.specs.Ready.{Here, Numbered, Few}
+use Rattle.translator.specs.JumpLaws.{Arguments}
+use Rattle.translator.specs.SizeLaws.{guarded-test, length-slots, label-size, call-size, called-size, branch-size, raise-size}
+use lib.ListN.{length-map}
+
+-- The ranges of the names of an operation.
+abbrev pub Fine : List ℕ → ℕ → Operation → Type 0
+Fine s at (Constant x i next) = (x < 32) × (at + 6 ≤ length s) × (i ≡ valueAt s (at + 2))
+Fine s at (Copy x y next) = (x < 32) × (y < 32)
+Fine s at (Difference x y z next) = (x < 32) × (y < 32) × (z < 32)
+Fine s at (Call x g n next) = (x < 32) × (g < length (programOf s)) × (n ≤ 32) × Arguments s (at + 4) n × (length (argumentsAt s at n) ≡ n)
+Fine s at (Goto l next) = Unit {0}
+Fine s at (Return x next) = x < 32
+Fine s at (Branch y z l m next) = (y < 32) × (z < 32)
+Fine s at (Raise next) = Unit {0}
+Fine s at (Refused r) = ⊥
+
+module _ {s : List ℕ} {v at : ℕ} (H : Here s v at) where
+  pub few-variables : v ≤ 32
+  few-variables =
+      let k = H .facts .counts (H .function) (H .stands .there) in
+      let e : v ≡ variables (functionOf (programOf s) (H .function)) = H .vars in
+      let p : functionOf (programOf s) (H .function) .params ≤ 8 = k .params in
+      let l : functionOf (programOf s) (H .function) .locals ≤ 24 = k .locals in
+      omega arith
+
+  pub within : at < length s
+  within = H .facts .inside (H .function) at (H .stands)
+
+  pub fine : Fine s at (operationAt s at)
+  fine = go (view s at) refl (subst (λ (b : Block). WellFormedBlock P w n b) (H .facts .rest at) (H .stands .formed))
+    where
+      P : Program
+      P = programOf s
+
+      w : ℕ
+      w = variables (functionOf P (H .function))
+
+      n : ℕ
+      n = length (functionOf P (H .function) .blocks)
+
+      in32 : (x : ℕ) → x < w → x < 32
+      in32 x h = let a : v ≤ 32 = few-variables in let e : v ≡ w = H .vars in omega arith
+
+      go : {o : Operation} → View s at o → operationAt s at ≡ o → WellFormedBlock P w n (restFrom s at o (restAt s)) → Fine s at o
+      go (isConstant e h) q f = (in32 _ (f .0), h, refl)
+      go (isCopy e h) q f = (in32 _ (f .0), in32 _ (f .1))
+      go (isDifference e h) q f = (in32 _ (f .0), in32 _ (f .1), in32 _ (f .2))
+      go (isCall e h) q f =
+          let k = getD s (at + 3) 0 in
+          let g = getD s (at + 2) 0 in
+          let c : length (argumentsAt s at k) ≡ k = H .facts .called at _ g k _ q in
+          let p : functionOf P g .params ≤ 8 = H .facts .counts g (f .1) .params in
+          let m : length (argumentsAt s at k) ≡ functionOf P g .params = f .2 in
+          (in32 _ (f .0), f .1, omega arith, record { inside = h; small = λ i l. in32 _ (all-at (λ y. y < w) (argumentsAt s at k) i _ (f .3) (H .facts .argument at _ g k _ i q l)) }, c)
+      go (isGoto e h) q f = tt
+      go (isReturn e h) q f = in32 _ f
+      go (isBranch e h) q f = (in32 _ (f .0), in32 _ (f .1))
+      go (isRaise e h) q f = tt
+      go (isRefused r) q f = H .facts .operation (H .function) at r (H .stands) q
+
+pub few-of : (s : List ℕ) (at : ℕ) (o : Operation) → Fine s at o → Few o
+few-of s at (Constant x i next) f = tt
+few-of s at (Copy x y next) f = tt
+few-of s at (Difference x y z next) f = tt
+few-of s at (Call x g n next) f = f .2
+few-of s at (Goto l next) f = tt
+few-of s at (Return x next) f = tt
+few-of s at (Branch y z l m next) f = tt
+few-of s at (Raise next) f = tt
+few-of s at (Refused r) f = tt
+
+-- The size of what an operation becomes.
+pub operation-size : (ns : ℕ → ℕ) (base v h : ℕ) (s : List ℕ) (at : ℕ) (o : Operation) → Fine s at o
+    → length (operationBytes ns base v h s at o) ≡ operationSize v h o
+operation-size ns base v h s at (Constant x i next) f = refl
+operation-size ns base v h s at (Copy x y next) f = refl
+operation-size ns base v h s at (Difference x y z next) f = refl
+operation-size ns base v h s at (Call x g n next) f = called-size base v h x (ns g) n (argumentsAt s at n) (f .4)
+operation-size ns base v h s at (Goto l next) f = label-size base v l
+operation-size ns base v h s at (Return x next) f = refl
+operation-size ns base v h s at (Branch y z l m next) f = branch-size base v y z l m
+operation-size ns base v h s at (Raise next) f = raise-size base v h
+operation-size ns base v h s at (Refused r) f = refl
+
+-- The table gives the same bytes as the translation's numbers.
+pub same-numbers : (s ns : List ℕ) → Numbered s ns → (base v h at : ℕ) (o : Operation) → Fine s at o
+    → operationBytes (tabled ns) base v h s at o ≡ operationBytes (number (programOf s)) base v h s at o
+same-numbers s ns N base v h at (Constant x i next) f = refl
+same-numbers s ns N base v h at (Copy x y next) f = refl
+same-numbers s ns N base v h at (Difference x y z next) f = refl
+same-numbers s ns N base v h at (Call x g n next) f = ap (λ (k : ℕ). callBytes base v h x k n (argumentsAt s at n)) (N g (f .1))
+same-numbers s ns N base v h at (Goto l next) f = refl
+same-numbers s ns N base v h at (Return x next) f = refl
+same-numbers s ns N base v h at (Branch y z l m next) f = refl
+same-numbers s ns N base v h at (Raise next) f = refl
+same-numbers s ns N base v h at (Refused r) f = refl
+
+-- The bytes of what follows an operation.
+abbrev pub following : After → (ℕ → List ℕ) → List ℕ
+following (Onward next) rest = rest next
+following (Ended next) rest = []
+following (Halted r) rest = []
+
+two : (x : ℕ) → x + 2 ≡ suc (suc x)
+two x = omega arith
+
+three : (x : ℕ) → x + 3 ≡ suc (suc (suc x))
+three x = omega arith
+
+-- The forms are the writing of the translation.
+pub label-is : (base v l : ℕ) → exprBytes (toLabel base v l) ≡ labelJump base v l
+unfolding labelJump jumpHead
+label-is base v l = ap (λ (n : ℕ). (4 ∷ (pairBytes (base + l) ++ (0 ∷ 1 ∷ n ∷ slotsFrom 2 v)))) (length-slots 2 v)
+
+call-is : (g k h n : ℕ) (ys : List ℕ) → length ys ≡ n → exprBytes (jump g k h (map slotOf ys)) ≡ callJump g k h n ys
+unfolding callJump jumpHead
+call-is g k h n ys e = ap (λ (m : ℕ). (4 ∷ (pairBytes g ++ (k ∷ h ∷ m ∷ map slotOf ys)))) (length-map ys slotOf ∙ e)
+
+branch-is : (base v y z l m : ℕ) → exprBytes (ifAtMost (slotOf y) (slotOf z) (toLabel base v l) (toLabel base v m)) ≡ branchBytes base v y z l m
+unfolding branchBytes
+branch-is base v y z l m = rw (two y, two z, ← label-is base v l, ← label-is base v m, length-slots 2 v)
+
+module _ (ns : ℕ → ℕ) (base v : ℕ) where
+  plain-is : (x g n : ℕ) (ys : List ℕ) (b : Block) → length ys ≡ n
+      → exprBytes (code ns base v 0 (call x g ys b)) ≡ plainCall v x (ns g) n ys ++ exprBytes (code ns base v 0 b)
+  unfolding code plainCall
+  plain-is x g n ys b e = rw (two v, two x, ← call-is (ns g) (suc (suc v)) 1 n ys e, length-map ys slotOf, e)
+
+  guarded-is : (l x g n : ℕ) (ys : List ℕ) (b : Block) → length ys ≡ n
+      → exprBytes (code ns base v (suc l) (call x g ys b)) ≡ guardedCall base v (suc l) x (ns g) n ys ++ exprBytes (code ns base v (suc l) b)
+  unfolding code guardedCall
+  guarded-is l x g n ys b e =
+      rw (
+        append-assoc (callJump (ns g) (v + 2) (v + 3) n ys) (pairBytes (6 + v) ++ labelJump base v (suc l)) (exprBytes (code ns base v (suc l) b)),
+        two v,
+        two x,
+        three v,
+        ← call-is (ns g) (suc (suc v)) (suc (suc (suc v))) n ys e,
+        ← label-is base v (suc l),
+        length-map ys slotOf,
+        e,
+        length-slots 2 v,
+      )
+
+  -- The writing of the translation: what the operation becomes, and what follows.
+  pub split : (h : ℕ) (s : List ℕ) (at : ℕ) (o : Operation) → Fine s at o
+      → exprBytes (code ns base v h (restFrom s at o (restAt s)))
+      ≡ operationBytes ns base v h s at o ++ following (afterOf o) (λ m. exprBytes (code ns base v h (restAt s m)))
+  unfolding code callBytes raiseBytes
+  split h s at (Constant x i next) f = ap (λ (k : ℕ). 1 ∷ k ∷ (valueBytes i ++ exprBytes (code ns base v h (restAt s next)))) (sym (two x))
+  split h s at (Copy x y next) f = rw (two x, two y)
+  split h s at (Difference x y z next) f = rw (two x, two y, two z)
+  split zero s at (Call x g n next) f = plain-is x g n (argumentsAt s at n) (restAt s next) (f .4)
+  split (suc l) s at (Call x g n next) f = rw (guarded-test l) (guarded-is l x g n (argumentsAt s at n) (restAt s next) (f .4))
+  split h s at (Goto l next) f = label-is base v l ∙ sym (append-nil (labelJump base v l))
+  split h s at (Return x next) f = rw (two x)
+  split h s at (Branch y z l m next) f = branch-is base v y z l m ∙ sym (append-nil (branchBytes base v y z l m))
+  split zero s at (Raise next) f = refl
+  split (suc l) s at (Raise next) f = rw (guarded-test l) (label-is base v (suc l) ∙ sym (append-nil (labelJump base v (suc l))))
+  split h s at (Refused r) f = absurd f
+
+pub split-at : {s : List ℕ} {v at : ℕ} (base h : ℕ) → Here s v at
+    → bytesAt s base v h at ≡ operationBytes (number (programOf s)) base v h s at (operationAt s at) ++ following (afterOf (operationAt s at)) (λ m. bytesAt s base v h m)
+unfolding bytesAt bodyAt
+split-at {s} {v} {at} base h H =
+    ap (λ (b : Block). exprBytes (code (number (programOf s)) base v h b)) (H .facts .rest at)
+    ∙ split (number (programOf s)) base v h s at (operationAt s at) (fine H)

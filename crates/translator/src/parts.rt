@@ -1,0 +1,199 @@
+// The functions of the translated file, written one behind the other.
+use crate::blocks::put_block;
+use crate::bytes;
+use crate::sizes;
+ghost use mathlib.Core.Path.{_≡_};
+ghost use Prim.Native.Nat.{ℕ, _+_, _*_, _<_, _≤_};
+ghost use lib.ListN.{length, getD};
+ghost use Rattle.procedure_file.specs.Loaded.{Loaded};
+ghost use Rattle.procedure_file.specs.Check.{programOf};
+ghost use Rattle.semantics.specs.Program.{functionOf};
+ghost use Rattle.translator.specs.Writes.{Room, Wrote};
+ghost use Rattle.translator.specs.Parts.{partBytes, labelBytes, functionBytes, functionsBytes, targetsBefore};
+ghost use Rattle.translator.specs.Ready.{Placed, Numbered};
+ghost use Rattle.translator.specs.Translated.{translationOf};
+
+// A function of the translated file: it binds n locals and goes on as the block at an offset.
+fn put_part(
+    file: &[u8],
+    numbers: &[u16; 32],
+    base: usize,
+    p: u8,
+    n: u8,
+    v: u8,
+    h: u8,
+    at: usize,
+    out: &mut [u8],
+    o: usize,
+) -> usize
+    requires { ⌜ Placed (now file) (now numbers) base v at × (p ≤ 32) × (n ≤ 24) ⌝ }
+    requires { ⌜ Room o (partBytes (now file) base p n v h at) (now out) ⌝ }
+    ensures { λ r. ⌜ Wrote o (partBytes (now (file .entry)) base p n v h at) (now (out .entry)) r (now (out .exit)) ⌝ }
+{
+    let first = p + 2;
+    let body = sizes::block_size(file, v, h, at);
+    let size = 6 * (n as usize) + body;
+    let a = bytes::put_one(out, o, p);
+    let b = bytes::put_pair(out, a, size);
+    let e = bytes::put_zeros(out, b, first, n);
+    put_block(file, numbers, base, v, h, at, out, e)
+}
+
+// The block with label l of function f; label 0 is the entry block.
+fn put_label(
+    file: &[u8],
+    numbers: &[u16; 32],
+    starts: &[u16; 2048],
+    handlers: &[u8; 2048],
+    params: &[u8; 32],
+    locals: &[u8; 32],
+    blocks: &[u8; 32],
+    f: usize,
+    l: usize,
+    out: &mut [u8],
+    o: usize,
+) -> usize
+    requires { ⌜ Loaded (now file) (now starts) (now handlers) (now params) (now locals) (now blocks) × Numbered (now file) (now numbers) ⌝ }
+    requires { ⌜ (f < length (programOf (now file))) × (l ≤ length (functionOf (programOf (now file)) f .blocks)) ⌝ }
+    requires { ⌜ Room o (labelBytes (now file) f l) (now out) ⌝ }
+    ensures { λ r. ⌜ Wrote o (labelBytes (now (file .entry)) f l) (now (out .entry)) r (now (out .exit)) ⌝ }
+{
+    let slot = 64 * f + l;
+    let base = bytes::offset_number(numbers[f]);
+    let own = params[f];
+    let others = locals[f];
+    let v = own + others;
+    let p = sizes::by_label(l, own, v);
+    let n = sizes::by_label(l, others, 0);
+    let at = bytes::offset_number(starts[slot]);
+    let h = handlers[slot];
+    put_part(file, numbers, base, p, n, v, h, at, out, o)
+}
+
+// Function f and its labelled blocks.
+fn put_function(
+    file: &[u8],
+    numbers: &[u16; 32],
+    starts: &[u16; 2048],
+    handlers: &[u8; 2048],
+    params: &[u8; 32],
+    locals: &[u8; 32],
+    blocks: &[u8; 32],
+    f: usize,
+    out: &mut [u8],
+    o: usize,
+) -> usize
+    requires { ⌜ Loaded (now file) (now starts) (now handlers) (now params) (now locals) (now blocks) × Numbered (now file) (now numbers) ⌝ }
+    requires { ⌜ f < length (programOf (now file)) ⌝ }
+    requires { ⌜ Room o (functionBytes (now file) f) (now out) ⌝ }
+    ensures { λ r. ⌜ Wrote o (functionBytes (now (file .entry)) f) (now (out .entry)) r (now (out .exit)) ⌝ }
+{
+    let labels = bytes::byte_number(blocks[f]);
+    let mut place = o;
+    let mut l = 0;
+    while l <= labels {
+        place = put_label(
+            file,
+            numbers,
+            starts,
+            handlers,
+            params,
+            locals,
+            blocks,
+            f,
+            l,
+            out,
+            place,
+        );
+        l += 1;
+    }
+    place
+}
+
+// All functions.
+fn put_functions(
+    file: &[u8],
+    numbers: &[u16; 32],
+    starts: &[u16; 2048],
+    handlers: &[u8; 2048],
+    params: &[u8; 32],
+    locals: &[u8; 32],
+    blocks: &[u8; 32],
+    count: usize,
+    out: &mut [u8],
+    o: usize,
+) -> usize
+    requires { ⌜ Loaded (now file) (now starts) (now handlers) (now params) (now locals) (now blocks) × Numbered (now file) (now numbers) × (count ≡ length (programOf (now file))) ⌝ }
+    requires { ⌜ Room o (functionsBytes (now file)) (now out) ⌝ }
+    ensures { λ r. ⌜ Wrote o (functionsBytes (now (file .entry))) (now (out .entry)) r (now (out .exit)) ⌝ }
+{
+    let mut place = o;
+    let mut f: usize = 0;
+    while f < count {
+        place = put_function(
+            file,
+            numbers,
+            starts,
+            handlers,
+            params,
+            locals,
+            blocks,
+            f,
+            out,
+            place,
+        );
+        f += 1;
+    }
+    place
+}
+
+// The number of each function's entry in the translation; gives the number of functions of the translation.
+fn fill_numbers(blocks: &[u8; 32], count: usize, numbers: &mut [u16]) -> usize
+    requires { ⌜ (count ≤ 32) × (length (now numbers) ≡ 32) ⌝ }
+    ensures { λ r. ⌜ (r ≡ targetsBefore (now (blocks .entry)) count) × ((g : ℕ) → g < count → getD (now (numbers .exit)) g 0 ≡ targetsBefore (now (blocks .entry)) g) ⌝ }
+{
+    let mut n = 0;
+    let mut f = 0;
+    while f < count {
+        numbers[f] = n as u16;
+        let labels = bytes::byte_number(blocks[f]);
+        n += 1 + labels;
+        f += 1;
+    }
+    n
+}
+
+// The whole translated file.
+pub fn put_file(
+    file: &[u8],
+    starts: &[u16; 2048],
+    handlers: &[u8; 2048],
+    params: &[u8; 32],
+    locals: &[u8; 32],
+    blocks: &[u8; 32],
+    out: &mut [u8],
+) -> usize
+    requires { ⌜ Loaded (now file) (now starts) (now handlers) (now params) (now locals) (now blocks) ⌝ }
+    requires { ⌜ Room 0 (translationOf (now file)) (now out) ⌝ }
+    ensures { λ r. ⌜ Wrote 0 (translationOf (now (file .entry))) (now (out .entry)) r (now (out .exit)) ⌝ }
+{
+    let mut numbers = [0u16; 32];
+    let count = bytes::byte_number(file[5]);
+    let targets = fill_numbers(blocks, count, &mut numbers);
+    let mark = b"SPC";
+    let a = bytes::put_three(out, 0, mark[0], mark[1], mark[2]);
+    let b = bytes::put_two(out, a, 1, 0);
+    let e = bytes::put_pair(out, b, targets);
+    put_functions(
+        file,
+        &numbers,
+        starts,
+        handlers,
+        params,
+        locals,
+        blocks,
+        count,
+        out,
+        e,
+    )
+}
