@@ -43,9 +43,6 @@ module _ (a b : List ℕ) {o : ℕ} {d : List ℕ} (R : Room o (a ++ b) d) where
         laid = X .laid ∙ (ap (λ (k : ℕ). lay k b d₁) n ∙ (ap (λ (x : List ℕ). lay (o + length a) b x) (W .laid) ∙ lay-lay o a b d (room-front .fits)));
       }
 
-pub wrote-none : (o : ℕ) (d : List ℕ) → Wrote o [] d o d
-wrote-none o d = record { next = sym (add-zero o); laid = sym (lay-nil o d) }
-
 -- In a loop: the rest w, written from o on, makes what the whole makes from the start.
 pub record Rest (o₀ : ℕ) (w₀ d₀ : List ℕ) (o : ℕ) (w d : List ℕ) : Type 0 where
   pub room : Room o₀ w₀ d₀
@@ -132,6 +129,3 @@ arguments-more s i n m e h =
     ∙ (ap (λ (l : List ℕ). map slotOf (take (suc m) l)) (drop-cons s i 0 h)
     ∙ (ap (λ (k : ℕ). suc (suc (getD s i 0)) ∷ map slotOf (take m (drop k s))) q
     ∙ ap (λ (k : ℕ). k ∷ map slotOf (take m (drop (i + 1) s))) t))
-
-pub none : (n : ℕ) → n ≤ 0 → n ≡ 0
-none n h = omega arith

@@ -1,9 +1,9 @@
 // The translator: a procedure file becomes a translated file.
-pub mod blocks;
-pub mod bytes;
-pub mod jumps;
-pub mod parts;
-pub mod sizes;
+mod blocks;
+mod bytes;
+mod jumps;
+mod parts;
+mod sizes;
 
 use parsing::Checked;
 use parsing::Refusal;

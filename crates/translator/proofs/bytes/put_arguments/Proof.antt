@@ -1,6 +1,5 @@
 -- `translator::bytes::put_arguments` meets its contract.
 
--- `translator::bytes::put_arguments` meets its contract.
 use Rattle.translator.specs.WriteLaws.{Rest, rest-none, rest-as, rest-more, rest-done, room-front, arguments-more}
 use Rattle.translator.specs.JumpLaws.{Passing, passing-none, passing-small, passing-more, passing-room, passing-done}
 use native.Mathlib.Omega.{arith}

@@ -1,6 +1,5 @@
 -- `translator::bytes::put_four` meets its contract.
 
--- `translator::bytes::put_four` meets its contract.
 use Rattle.translator.specs.WriteLaws.{wrote-four}
 use mathlib.Core.Path.{refl}
 use lib.ListN.{length-set}

@@ -1,6 +1,5 @@
 -- `translator::bytes::put_one` meets its contract.
 
--- `translator::bytes::put_one` meets its contract.
 use Rattle.translator.specs.WriteLaws.{wrote-one}
 use mathlib.Core.Path.{refl}
 use borrow.Author.Needs.{needs}

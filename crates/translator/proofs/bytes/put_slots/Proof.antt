@@ -1,8 +1,5 @@
 -- `translator::bytes::put_slots` meets its contract.
 use mathlib.Core.Path.{_≡_}
--- `translator::bytes::put_slots` meets its contract.
-
--- `translator::bytes::put_slots` meets its contract.
 use Rattle.translator.specs.WriteLaws.{Rest, rest-none, rest-as, rest-more, rest-done, room-front, slots-more}
 use Rattle.semantics.specs.Translation.{slotsFrom}
 use mathlib.Core.List.{[], _∷_}

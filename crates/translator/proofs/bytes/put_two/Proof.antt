@@ -1,6 +1,5 @@
 -- `translator::bytes::put_two` meets its contract.
 
--- `translator::bytes::put_two` meets its contract.
 use Rattle.translator.specs.WriteLaws.{wrote-two}
 use mathlib.Core.Path.{refl}
 use lib.ListN.{length-set}

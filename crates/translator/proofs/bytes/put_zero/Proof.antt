@@ -1,6 +1,5 @@
 -- `translator::bytes::put_zero` meets its contract.
 
--- `translator::bytes::put_zero` meets its contract.
 use Rattle.translator.specs.WriteLaws.{room-front, room-back, wrote-both}
 use mathlib.Core.List.{[], _∷_}
 use borrow.Author.Needs.{needs}

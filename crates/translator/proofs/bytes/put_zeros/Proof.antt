@@ -1,8 +1,5 @@
 -- `translator::bytes::put_zeros` meets its contract.
 use mathlib.Core.Path.{_≡_}
--- `translator::bytes::put_zeros` meets its contract.
-
--- `translator::bytes::put_zeros` meets its contract.
 use Rattle.translator.specs.WriteLaws.{Rest, rest-none, rest-as, rest-more, rest-done, room-front, zeros-more}
 use Rattle.translator.specs.Bytes.{zeros}
 use mathlib.Core.List.{[], _∷_, _++_}

@@ -1,6 +1,5 @@
 -- `translator::jumps::jump_size` meets its contract.
 
--- `translator::jumps::jump_size` meets its contract.
 use Rattle.translator.proofs.Table.{at}
 use mathlib.Core.List.{List, [], _∷_}
 use mathlib.Core.Bool.{Bool}

@@ -1,6 +1,5 @@
 -- `translator::jumps::put_call_jump` meets its contract.
 
--- `translator::jumps::put_call_jump` meets its contract.
 use Rattle.translator.specs.WriteLaws.{room-front, room-back, wrote-both}
 use Rattle.translator.specs.Bytes.{jumpHead, callJump}
 use Rattle.semantics.specs.Translation.{slotOf}

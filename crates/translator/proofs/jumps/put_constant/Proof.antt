@@ -1,6 +1,5 @@
 -- `translator::jumps::put_constant` meets its contract.
 use native.Mathlib.Omega.{arith}
--- `translator::jumps::put_constant` meets its contract.
 use Rattle.translator.specs.JumpLaws.{wrote-as, room-as}
 use Rattle.translator.specs.WriteLaws.{room-front, room-back, wrote-both}
 use Rattle.parsing.specs.BytesLaws.{value-bytes}

@@ -1,6 +1,5 @@
 -- `translator::jumps::put_jump_head` meets its contract.
 
--- `translator::jumps::put_jump_head` meets its contract.
 use Rattle.translator.specs.WriteLaws.{room-front, room-back, wrote-both}
 use Rattle.translator.specs.Bytes.{jumpHead}
 use Rattle.parsing.specs.Bytes.{pairBytes}

@@ -1,6 +1,5 @@
 -- `translator::jumps::put_label_jump` meets its contract.
 
--- `translator::jumps::put_label_jump` meets its contract.
 use Rattle.translator.specs.WriteLaws.{room-front, room-back, wrote-both}
 use Rattle.translator.specs.Bytes.{jumpHead, labelJump}
 use Rattle.semantics.specs.Translation.{slotsFrom}

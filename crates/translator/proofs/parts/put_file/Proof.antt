@@ -1,6 +1,5 @@
 -- `translator::parts::put_file` meets its contract.
 use Rattle.translator.specs.FileLaws.{targets-are, targets-low, number-from, mark-room, version-room, targets-room, functions-room, file-wrote}
--- `translator::parts::put_file` meets its contract.
 use Rattle.translator.specs.PartLaws.{few-functions, count-is, inside}
 use mathlib.Core.Path.{_∙_}
 use native.Mathlib.Omega.{arith}
