@@ -1,3 +1,6 @@
--- Definitions: Statement. Laws: the others.
+-- Definitions: Statement, Sides. Laws: the others.
 pub mod Statement
+pub mod Sides
+pub mod StopLaws
 pub mod Theorem
+pub mod SidesLaws

@@ -1,0 +1,203 @@
+-- How the two runs stop: from what the rules agree on at every budget to the two runs of one call.
+use Prim.Native.Nat.{ℕ, zero, suc, _+_, _*_, _≤_, _<_}
+use native.Mathlib.Omega.{arith}
+use native.Mathlib.Nat.{add-zero}
+use mathlib.Core.Path.{_≡_, refl, sym, ap, _∙_, subst}
+use mathlib.Core.List.{List, [], _∷_}
+use lib.IntN.{ℤ}
+use Rattle.semantics.specs.Program.{constant, copy, difference, call, goto, return, branch, raise, Function, Program, functionOf}
+use Rattle.semantics.specs.Run.{End, Outcome, next, end, tooDeep, stuck, Stop, ended, spent, deep, broken, Result, told, oneMoreIfDeep, after, added, run, total}
+use Rattle.semantics.specs.Bench.{Frame, frame, State, state, begun, step, bench}
+use Rattle.semantics.specs.WellFormed.{All}
+use Rattle.semantics.specs.Controller.{Control, doing, started, controlStep, controller}
+use Rattle.semantics.specs.Code.{Code}
+use Rattle.semantics.specs.Extras.{caught, caughtOutside, extra, extras}
+use Rattle.semantics.specs.Matching.{over, going, holding, HoldingsMatch}
+use Rattle.semantics.specs.Statement.{SameCall, IsDeep, IsBroken, Agree}
+use Rattle.semantics.specs.RunLaws.{IsLast, last, Goes, Ran, ran-spent, ran-last, ran, run-spent, run-last, run-deep}
+use Rattle.procedure_names.specs.Writing.{FunctionInRange}
+use Rattle.agreement.specs.Sides.{StopsMatch}
+
+-- ── A run takes no more steps than its budget, fewer where it stops deep, and stops deep with one more than its steps ────
+
+pub record Early {S : Type 0} (step : S → Outcome S) (n : ℕ) (s : S) : Type 0 where
+  pub few : run step n s .steps ≤ n
+  pub left : IsDeep (run step n s .stop) → run step n s .steps < n
+  pub again : IsDeep (run step n s .stop) → run step (run step n s .steps + 1) s ≡ run step n s
+
+module _ {S : Type 0} (step : S → Outcome S) (n : ℕ) (s : S) where
+  by-spent : (t : S) → run step n s ≡ record { stop = spent t; steps = n } → Early step n s
+  by-spent t e =
+      let q : run step n s .steps ≡ n = ap (λ (r : Result S). r .steps) e in
+      record {
+        few = omega arith;
+        left = λ d. absurd (subst (λ (r : Result S). IsDeep (r .stop)) e d);
+        again = λ d. absurd (subst (λ (r : Result S). IsDeep (r .stop)) e d);
+      }
+
+  by-last : (k : ℕ) (t : S) → Goes step k s t → IsLast (step t) → k < n → (o : Outcome S) → step t ≡ o → run step n s ≡ after k (last o t) → Early step n s
+  by-last k t g l h (next u) e r = absurd (subst (λ (o : Outcome S). IsLast o) e l)
+  by-last k t g l h (end x) e r =
+      let q : run step n s .steps ≡ k + 1 = ap (λ (y : Result S). y .steps) r in
+      record {
+        few = omega arith;
+        left = λ d. absurd (subst (λ (y : Result S). IsDeep (y .stop)) r d);
+        again = λ d. absurd (subst (λ (y : Result S). IsDeep (y .stop)) r d);
+      }
+  by-last k t g l h tooDeep e r =
+      let q : run step n s .steps ≡ k = ap (λ (y : Result S). y .steps) (run-deep step k n s t g e h) in
+      record {
+        few = omega arith;
+        left = λ d. omega arith;
+        again = λ d. ap (λ (m : ℕ). run step (m + 1) s) q ∙ (run-deep step k (k + 1) s t g e (omega arith) ∙ sym (run-deep step k n s t g e h));
+      }
+  by-last k t g l h stuck e r =
+      let q : run step n s .steps ≡ k + 0 = ap (λ (y : Result S). y .steps) r in
+      record {
+        few = omega arith;
+        left = λ d. absurd (subst (λ (y : Result S). IsDeep (y .stop)) r d);
+        again = λ d. absurd (subst (λ (y : Result S). IsDeep (y .stop)) r d);
+      }
+
+  pub early : Early step n s
+  early = by (ran step n s)
+    where
+      by : Ran step n s → Early step n s
+      by (ran-spent t g) = by-spent t (run-spent step n s t g)
+      by (ran-last k t g l h) = by-last k t g l h (step t) refl (run-last step k n s t g l h)
+
+-- ── Extras are few ──────────────────────────────────────────────────────────────────────────────
+
+module _ {S : Type 0} (step : S → Outcome S) (weight : S → ℕ) (m : ℕ) (light : (s : S) → weight s ≤ m) where
+  pub total-few : (n : ℕ) (s : S) → total step weight n s ≤ m * n
+  total-few zero s = omega arith
+  total-few (suc n) s = by (step s) (λ (t : S). total-few n t)
+    where
+      by : (o : Outcome S) → ((t : S) → total step weight n t ≤ m * n) → added (weight s) o (λ (t : S). total step weight n t) ≤ m * suc n
+      by (next t) h = let a : weight s ≤ m = light s in let b : total step weight n t ≤ m * n = h t in let q : m * suc n ≡ m * n + m = omega arith in omega arith
+      by (end e) h = let a : weight s ≤ m = light s in let q : m * suc n ≡ m * n + m = omega arith in omega arith
+      by tooDeep h = omega arith
+      by stuck h = omega arith
+
+caught-few : (fs : List Frame) → caught fs ≤ 1
+caught-few [] = omega arith
+caught-few (frame f zero b vs x ∷ fs) = caught-few fs
+caught-few (frame f (suc l) b vs x ∷ fs) = omega arith
+
+outside-few : (h : ℕ) (fs : List Frame) → caughtOutside h fs ≤ 1
+outside-few zero fs = caught-few fs
+outside-few (suc h) fs = omega arith
+
+locals-few : (P : Program) → All FunctionInRange P → (g : ℕ) → functionOf P g .locals ≤ 24
+locals-few [] a g = omega arith
+locals-few (F ∷ Fs) a zero = a .0 .locals
+locals-few (F ∷ Fs) a (suc g) = locals-few Fs (a .1) g
+
+module _ (P : Program) (a : All FunctionInRange P) where
+  extra-few : (S : State) → extra P S ≤ 25
+  extra-few (state f h (constant x i b) vs fs) = omega arith
+  extra-few (state f h (copy x y b) vs fs) = omega arith
+  extra-few (state f h (difference x y z b) vs fs) = omega arith
+  extra-few (state f h (call x g ys b) vs fs) = let l : functionOf P g .locals ≤ 24 = locals-few P a g in omega arith
+  extra-few (state f h (goto l) vs fs) = omega arith
+  extra-few (state f h (return x) vs fs) = omega arith
+  extra-few (state f h (branch y z l m) vs fs) = omega arith
+  extra-few (state f h raise vs fs) = let l : caughtOutside h fs ≤ 1 = outside-few h fs in omega arith
+
+  pub extras-few : (f : ℕ) (args : List ℤ) (d n : ℕ) → extras P f args d n ≤ 24 + 25 * n
+  unfolding extras
+  extras-few f args d n =
+      let l : functionOf P f .locals ≤ 24 = locals-few P a f in
+      let t : total (step P d) (extra P) n (begun f (functionOf P f) args []) ≤ 25 * n = total-few (step P d) (extra P) 25 extra-few n (begun f (functionOf P f) args []) in
+      omega arith
+
+pub bench-few : (P : Program) (f : ℕ) (args : List ℤ) (d n : ℕ) → bench P f args d n .steps ≤ n
+unfolding bench
+bench-few P f args d n = early (step P d) n (begun f (functionOf P f) args []) .few
+
+pub bench-again : (P : Program) (f : ℕ) (args : List ℤ) (d n : ℕ) → IsDeep (bench P f args d n .stop) → bench P f args d (bench P f args d n .steps + 1) ≡ bench P f args d n
+unfolding bench
+bench-again P f args d n h = early (step P d) n (begun f (functionOf P f) args []) .again h
+
+pub controller-left : (Q : Code) (g : ℕ) (args : List ℤ) (d n : ℕ) → IsDeep (controller Q g args d n .stop) → controller Q g args d n .steps < n
+unfolding controller
+controller-left Q g args d n h = early (controlStep Q d) n (started Q g args) .left h
+
+-- ── The two runs of one call ────────────────────────────────────────────────────────────────────
+
+module _ (P : Program) where
+  match-ended : (e : End) (y : Stop Control) → HoldingsMatch P (over e) (holding y) → StopsMatch P (ended e) y
+  match-ended e (ended e′) h = record { alike = ap ended (sym h); states = h; call = λ S C p q. absurd (subst (λ (x : Stop State). IsDeep x) (sym p) tt) }
+  match-ended e (spent c) h = absurd h
+  match-ended e (deep c) h = absurd h
+  match-ended e (broken c) h = absurd h
+
+  match-spent : (S : State) (y : Stop Control) → ¬ IsDeep y → ¬ IsBroken y → HoldingsMatch P (going S) (holding y) → StopsMatch P (spent S) y
+  match-spent S (ended e′) n b h = absurd h
+  match-spent S (spent c) n b h = record { alike = refl; states = h; call = λ S′ C p q. absurd (subst (λ (x : Stop State). IsDeep x) (sym p) tt) }
+  match-spent S (deep c) n b h = absurd (n tt)
+  match-spent S (broken c) n b h = absurd (b tt)
+
+  same-states : (S : State) (C : Control) → SameCall P S C → HoldingsMatch P (going S) (going C)
+  same-states (state f h b vs fs) (doing e env rs) c = c .0
+
+  match-deep : (S : State) (y : Stop Control) → IsDeep y → ((C : Control) → y ≡ deep C → SameCall P S C) → StopsMatch P (deep S) y
+  match-deep S (ended e′) d h = absurd d
+  match-deep S (spent c) d h = absurd d
+  match-deep S (deep c) d h =
+      record {
+        alike = refl;
+        states = same-states S c (h c refl);
+        call = λ S′ C p q. let a : S ≡ S′ = cc (p) in let b : c ≡ C = cc (q) in subst (λ (T : State). SameCall P T C) a (subst (λ (D : Control). SameCall P S D) b (h c refl));
+      }
+  match-deep S (broken c) d h = absurd d
+
+-- The controller got bench steps + extras, one more where the bench stopped deep: it took bench steps + extras, and the two stops match.
+pub record Together (P : Program) (b : Result State) (x : ℕ) (C : ℕ → Result Control) : Type 0 where
+  pub stops : StopsMatch P (b .stop) (C (b .steps + x + oneMoreIfDeep (b .stop)) .stop)
+  pub steps : C (b .steps + x + oneMoreIfDeep (b .stop)) .steps ≡ b .steps + x
+
+module _ (P : Program) {B : ℕ → Result State} {X : ℕ → ℕ} {C : ℕ → Result Control} (A : Agree P B X C)
+    (sound : (n : ℕ) → ¬ IsBroken (B n .stop)) (controls : (n : ℕ) → ¬ IsBroken (C n .stop))
+    (again : (n : ℕ) → IsDeep (B n .stop) → B (B n .steps + 1) ≡ B n) (left : (n : ℕ) → IsDeep (C n .stop) → C n .steps < n) where
+  not-deep : (n : ℕ) → ¬ IsDeep (C (B n .steps + X n) .stop)
+  not-deep n d = let l : C (B n .steps + X n) .steps < B n .steps + X n = left (B n .steps + X n) d in let e : C (B n .steps + X n) .steps ≡ B n .steps + X n = A .counted n in absurd (omega arith)
+
+  module _ (n : ℕ) where
+    with-none : (x : Stop State) → B n .stop ≡ x → oneMoreIfDeep x ≡ 0 → StopsMatch P x (C (B n .steps + X n) .stop) → Together P (B n) (X n) C
+    with-none x e z M =
+        let q : B n .steps + X n + oneMoreIfDeep (B n .stop) ≡ B n .steps + X n = ap (λ (y : Stop State). B n .steps + X n + oneMoreIfDeep y) e ∙ (ap (λ (k : ℕ). B n .steps + X n + k) z ∙ add-zero (B n .steps + X n)) in
+        record {
+          stops = subst (λ (y : Stop State). StopsMatch P y (C (B n .steps + X n + oneMoreIfDeep (B n .stop)) .stop)) (sym e) (subst (λ (k : ℕ). StopsMatch P x (C k .stop)) (sym q) M);
+          steps = ap (λ (k : ℕ). C k .steps) q ∙ A .counted n;
+        }
+
+    with-one : (S : State) → B n .stop ≡ deep S → Together P (B n) (X n) C
+    with-one S e =
+        let d : IsDeep (B n .stop) = subst (λ (y : Stop State). IsDeep y) (sym e) tt in
+        let r : B (B n .steps + 1) ≡ B n = again n d in
+        let f : IsDeep (C (B n .steps + X n + 1) .stop) = A .sameDeep n .0 (subst (λ (y : Result State). IsDeep (y .stop)) (sym r) d) in
+        let q : B n .steps + X n + oneMoreIfDeep (B n .stop) ≡ B n .steps + X n + 1 = ap (λ (y : Stop State). B n .steps + X n + oneMoreIfDeep y) e in
+        let p : B (B n .steps + 1) .stop ≡ deep S = ap (λ (y : Result State). y .stop) r ∙ e in
+        record {
+          stops = subst (λ (y : Stop State). StopsMatch P y (C (B n .steps + X n + oneMoreIfDeep (B n .stop)) .stop)) (sym e) (subst (λ (k : ℕ). StopsMatch P (deep S) (C k .stop)) (sym q) (match-deep P S (C (B n .steps + X n + 1) .stop) f (λ (D : Control) g. A .sameCall n S D p g .0)));
+          steps = ap (λ (k : ℕ). C k .steps) q ∙ last-steps S p (C (B n .steps + X n + 1) .stop) refl f;
+        }
+      where
+        last-steps : (T : State) → B (B n .steps + 1) .stop ≡ deep T → (y : Stop Control) → C (B n .steps + X n + 1) .stop ≡ y → IsDeep y → C (B n .steps + X n + 1) .steps ≡ B n .steps + X n
+        last-steps T p (ended x) g d = absurd d
+        last-steps T p (spent c) g d = absurd d
+        last-steps T p (deep c) g d = A .sameCall n T c p g .2
+        last-steps T p (broken c) g d = absurd d
+
+    pub together : Together P (B n) (X n) C
+    together = by (B n .stop) refl
+      where
+        matched : (x : Stop State) → B n .stop ≡ x → HoldingsMatch P (holding x) (holding (C (B n .steps + X n) .stop))
+        matched x e = subst (λ (y : Stop State). HoldingsMatch P (holding y) (holding (C (B n .steps + X n) .stop))) e (A .matching n)
+
+        by : (x : Stop State) → B n .stop ≡ x → Together P (B n) (X n) C
+        by (ended e) q = with-none (ended e) q refl (match-ended P e (C (B n .steps + X n) .stop) (matched (ended e) q))
+        by (spent S) q = with-none (spent S) q refl (match-spent P S (C (B n .steps + X n) .stop) (not-deep n) (controls (B n .steps + X n)) (matched (spent S) q))
+        by (deep S) q = with-one S q
+        by (broken S) q = absurd (sound n (subst (λ (y : Stop State). IsBroken y) (sym q) tt))
