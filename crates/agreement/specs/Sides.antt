@@ -19,9 +19,7 @@ use Rattle.parsing.specs.Parser.{Verdict, accepted, refused, orElse}
 use Rattle.procedure_file.specs.Check.{checkOf, programOf}
 use Rattle.target_file.specs.Check.{codeOf}
 use Rattle.translator.specs.Translated.{translationOf}
-use Rattle.bench.specs.declared.machine.Answer as BenchAnswer
 use Rattle.bench.specs.Published as Bench
-use Rattle.controller.specs.declared.machine.Answer as ControllerAnswer
 use Rattle.controller.specs.Published as Controller
 use Rattle.agreement.specs.declared.Sides.{Sides}
 use Rattle.agreement.specs.Statement.{Claim}
@@ -62,19 +60,13 @@ pub data Tells : Type 0 where
   refuses : (number place : ℕ) → Tells
   tells : (target : ℕ) (bench : Stop (Unit {0})) (steps extras : ℕ) (controller : Stop (Unit {0})) (controlled : ℕ) → Tells
 
--- What two answers say side by side; neither refuses.
-abbrev pub paired : ℕ → Bench.Tells → Controller.Tells → Tells
-paired target (Bench.refuses n p) c = refuses n p
-paired target (Bench.tells x k e) (Controller.refuses n p) = refuses n p
-paired target (Bench.tells x k e) (Controller.tells y m) = tells target x k e y m
-
 -- What an answer says.
-abbrev pub saidOf : Checked → Tells → Tells
-saidOf Accepted t = t
-saidOf (Refused r) t = refuses (r .number) (r .place)
+abbrev pub saidOf : Checked → Sides → Tells
+saidOf Accepted a = tells (a .target) (Bench.stoppedAs (a .bench .stopped)) (a .bench .steps) (a .bench .extras) (Controller.stoppedAs (a .controller .stopped)) (a .controller .steps)
+saidOf (Refused r) a = refuses (r .number) (r .place)
 
 abbrev pub sidesTold : Sides → Tells
-sidesTold a = saidOf (a .verdict) (paired (a .target) (Bench.toldBy (a .bench)) (Controller.toldBy (a .controller)))
+sidesTold a = saidOf (a .verdict) a
 
 -- The run of the bench, and "the controller gets bench steps plus extras, one more where the bench stopped deep".
 abbrev pub benchRun : List ℕ → List ℤ → ℕ → ℕ → Result State
@@ -116,6 +108,8 @@ pub record RanTogether (s : List ℕ) (args : List ℤ) (depth budget : ℕ) (a 
   pub recordWords : Controller.WordsAfter (translationOf s) depth (controllerRun s args depth budget .stop) (a .controller .regs) (a .controller .slots) records records′
   pub stops : StopsMatch (programOf s) (benchRun s args depth budget .stop) (controllerRun s args depth budget .stop)
   pub counted : a .controller .steps ≡ a .bench .steps + a .bench .extras
+  -- "That neither run is then refused is part of the claim."
+  pub neitherRefused : (a .bench .verdict ≡ Accepted) × (a .controller .verdict ≡ Accepted)
   -- At every larger budget, and for ever.
   pub claim : Claim s args depth
 

@@ -37,7 +37,7 @@ use Rattle.controller.specs.Published as Controller
 use Rattle.controller.specs.Published.{controllerTells}
 use Rattle.agreement.specs.declared.Sides.{Sides}
 use Rattle.agreement.specs.Statement.{Claim}
-use Rattle.agreement.specs.Sides.{unless, mainVerdict, wordsVerdict, judgedCall, sidesVerdict, Tells, refuses, tells, paired, saidOf, sidesTold, benchRun, extrasOf, controllerBudget, controllerRun, tellsBy, sidesTell, StopsMatch, RanTogether, MemoryBy, SidesMemory}
+use Rattle.agreement.specs.Sides.{unless, mainVerdict, wordsVerdict, judgedCall, sidesVerdict, Tells, refuses, tells, saidOf, sidesTold, benchRun, extrasOf, controllerBudget, controllerRun, tellsBy, sidesTell, StopsMatch, RanTogether, MemoryBy, SidesMemory}
 use Rattle.agreement.specs.StopLaws.{Together, bench-few, extras-few}
 use Rattle.agreement.specs.Theorem.{bench-accepts, bench-tells, controller-accepts, controller-tells, told-more, runs-together, files-agree}
 
@@ -59,24 +59,33 @@ pub record BothRan (s : List ℕ) (args : List ℤ) (depth budget : ℕ) (a : Si
 
 -- ── What an answer says, part by part ───────────────────────────────────────────────────────────
 
-pub record BenchSays (a : BenchAnswer.Answer) (x : Stop (Unit {0})) (k e : ℕ) : Type 0 where
-  pub stop : Bench.stoppedAs (a .stopped) ≡ x
-  pub steps : a .steps ≡ k
-  pub extras : a .extras ≡ e
+record BenchSays (a : BenchAnswer.Answer) (x : Stop (Unit {0})) (k e : ℕ) : Type 0 where
+  verdict : a .verdict ≡ Accepted
+  stop : Bench.stoppedAs (a .stopped) ≡ x
+  steps : a .steps ≡ k
+  extras : a .extras ≡ e
 
-pub bench-says : (a : BenchAnswer.Answer) (x : Stop (Unit {0})) (k e : ℕ) → Bench.toldBy a ≡ Bench.tells x k e → BenchSays a x k e
-bench-says a x k e h = by (a .verdict) h
+bench-says : (a : BenchAnswer.Answer) (x : Stop (Unit {0})) (k e : ℕ) → Bench.toldBy a ≡ Bench.tells x k e → BenchSays a x k e
+bench-says a x k e h = by (a .verdict) refl h
   where
-    by : (v : Checked) → Bench.saidOf v (a .stopped) (a .steps) (a .extras) ≡ Bench.tells x k e → BenchSays a x k e
-    by Accepted q = record { stop = cc q; steps = cc q; extras = cc q }
-    by (Refused r) q = let z : _≡_ {A = ℕ} 0 1 = cc in absurd (omega arith)
+    by : (v : Checked) → a .verdict ≡ v → Bench.saidOf v (a .stopped) (a .steps) (a .extras) ≡ Bench.tells x k e → BenchSays a x k e
+    by Accepted p q = record { verdict = p; stop = cc q; steps = cc q; extras = cc q }
+    by (Refused r) p q = let z : _≡_ {A = ℕ} 0 1 = cc in absurd (omega arith)
 
-pub controller-steps : (a : ControllerAnswer.Answer) (x : Stop (Unit {0})) (k : ℕ) → Controller.toldBy a ≡ Controller.tells x k → a .steps ≡ k
-controller-steps a x k h = by (a .verdict) h
+record ControllerSays (a : ControllerAnswer.Answer) (x : Stop (Unit {0})) (k : ℕ) : Type 0 where
+  verdict : a .verdict ≡ Accepted
+  stop : Controller.stoppedAs (a .stopped) ≡ x
+  steps : a .steps ≡ k
+
+controller-says : (a : ControllerAnswer.Answer) (x : Stop (Unit {0})) (k : ℕ) → Controller.toldBy a ≡ Controller.tells x k → ControllerSays a x k
+controller-says a x k h = by (a .verdict) refl h
   where
-    by : (v : Checked) → Controller.saidOf v (a .stopped) (a .steps) ≡ Controller.tells x k → a .steps ≡ k
-    by Accepted q = cc q
-    by (Refused r) q = let z : _≡_ {A = ℕ} 0 1 = cc in absurd (omega arith)
+    by : (v : Checked) → a .verdict ≡ v → Controller.saidOf v (a .stopped) (a .steps) ≡ Controller.tells x k → ControllerSays a x k
+    by Accepted p q = record { verdict = p; stop = cc q; steps = cc q }
+    by (Refused r) p q = let z : _≡_ {A = ℕ} 0 1 = cc in absurd (omega arith)
+
+said-alike : {t t′ k k′ e e′ m m′ : ℕ} {x x′ y y′ : Stop (Unit {0})} → t ≡ t′ → x ≡ x′ → k ≡ k′ → e ≡ e′ → y ≡ y′ → m ≡ m′ → tells t x k e y m ≡ tells t′ x′ k′ e′ y′ m′
+said-alike a b c d e f = cc (a, b, c, d, e, f)
 
 -- ── Both runs ───────────────────────────────────────────────────────────────────────────────────
 
@@ -149,6 +158,9 @@ module _ {s target : List ℕ} {args : List ℤ} {depth : ℕ} {frames records :
             ∙ (ap (λ (k : ℕ). controllerTells (translationOf s) args depth k (length records)) (en ∙ budget-is)
             ∙ controller-tells (translationOf s) args depth (length records) (claim .isAccepted) (claim .arguments) (R .low) (R .recordsFit) (controllerBudget s args depth budget)))
 
+        control-said : ControllerSays c (told (controllerRun s args depth budget .stop)) (controllerRun s args depth budget .steps)
+        control-said = controller-says c (told (controllerRun s args depth budget .stop)) (controllerRun s args depth budget .steps) control-told
+
         control-words : Controller.ControllerWords (translationOf s) args depth (controllerBudget s args depth budget) c records records′
         control-words =
             subst (λ (k : ℕ). Controller.ControllerWords (translationOf s) args depth k c records records′) (en ∙ budget-is)
@@ -157,10 +169,7 @@ module _ {s target : List ℕ} {args : List ℤ} {depth : ℕ} {frames records :
         pub both-ran : BothRan s args depth budget (record { verdict = Accepted; target = length target; bench = a; controller = c }) frames frames′ records records′
         both-ran =
             record {
-              said =
-                  ap (λ (t : List ℕ). paired (length t) (Bench.toldBy a) (Controller.toldBy c)) (R .isTarget)
-                  ∙ (ap (λ (y : Bench.Tells). paired (length (translationOf s)) y (Controller.toldBy c)) bench-told
-                  ∙ ap (λ (y : Controller.Tells). paired (length (translationOf s)) (Bench.tells (told (b .stop)) (b .steps) x) y) control-told);
+              said = said-alike (ap length (R .isTarget)) (said-so .stop) (said-so .steps) (said-so .extras) (control-said .stop) (control-said .steps);
               together =
                   record {
                     frameWords = subst (λ (v : Verdict). Bench.WordsBy v s depth (b .stop) (a .regs) (a .vars) frames frames′) (bench-accepts s args depth (length frames) (R .isAccepted) (R .arguments) (R .low) (R .framesFit)) wb;
@@ -169,8 +178,9 @@ module _ {s target : List ℕ} {args : List ℤ} {depth : ℕ} {frames records :
                         (controller-accepts (translationOf s) args depth (length records) (claim .isAccepted) (claim .arguments) (R .low) (R .recordsFit)) control-words;
                     stops = stopped;
                     counted =
-                        controller-steps c (told (controllerRun s args depth budget .stop)) (controllerRun s args depth budget .steps) control-told
+                        control-said .steps
                         ∙ (took ∙ (ap (λ (k : ℕ). k + x) (sym (said-so .steps)) ∙ ap (λ (k : ℕ). a .steps + k) (sym (said-so .extras))));
+                    neitherRefused = (said-so .verdict, control-said .verdict);
                     claim = claim;
                   };
             }
@@ -349,7 +359,7 @@ module _ (s : List ℕ) (args : List ℤ) (depth budget : ℕ) (frames : List �
   refused-so : (a : Sides) {r : Refusal} → sidesVerdict s (length args) depth (length frames) (length room) (length records) ≡ refused (r .number) (r .place) → a .verdict ≡ Refused r → Answered s args depth budget a frames frames room room records records
   unfolding sidesTell
   refused-so a {r} e q = (
-    ap (λ (v : Checked). saidOf v (paired (a .target) (Bench.toldBy (a .bench)) (Controller.toldBy (a .controller)))) q
+    ap (λ (v : Checked). saidOf v a) q
         ∙ ap (λ (v : Verdict). tellsBy v (length (translationOf s)) (benchRun s args depth budget) (extrasOf s args depth budget) (controllerRun s args depth budget)) (sym e),
     subst (λ (v : Verdict). MemoryBy v s args depth budget a frames frames room room records records) (sym e) ((refl, refl, refl)),
   )

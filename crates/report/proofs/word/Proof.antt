@@ -1,0 +1,35 @@
+-- `report::word` meets its contract.
+use mathlib.Core.Path.{refl}
+use Rattle.report.specs.Report.{wordOf}
+use borrow.Author.Needs.{needs}
+use Rattle.report.proofs.word.Statement.{statement}
+use Rattle.report.proofs.word.Tie as tie
+use Rattle.report.proofs.word.Reads as reads
+use Rattle.report.proofs.word.Lts as lts
+
+mul-result : tie.Need-mul-result
+mul-result c = search needs
+
+add-result : tie.Need-add-result
+add-result c = search needs
+
+mul-result-2 : tie.Need-mul-result-2
+mul-result-2 c = search needs
+
+add-result-2 : tie.Need-add-result-2
+add-result-2 c = search needs
+
+mul-result-3 : tie.Need-mul-result-3
+mul-result-3 c = search needs
+
+add-result-3 : tie.Need-add-result-3
+add-result-3 c = search needs
+
+returns : tie.Need-returns
+unfolding wordOf
+returns c = refl
+
+pub word-spec : {M : Type 1} → statement M
+word-spec =
+    tie.close
+    (tie.spec mul-result add-result mul-result-2 add-result-2 mul-result-3 add-result-3 returns)

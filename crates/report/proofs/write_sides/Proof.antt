@@ -1,0 +1,60 @@
+-- `report::write_sides` meets its contract.
+use mathlib.Core.Path.{_≡_, sym, subst}
+use mathlib.Core.List.{List}
+use Prim.Native.Nat.{ℕ}
+use Rattle.text.specs.Wrote.{Wrote}
+use Rattle.report.specs.ReportLaws.{told-refused, told-both, wrote-as}
+use borrow.Author.Needs.{needs}
+use Rattle.report.proofs.write_sides.Statement.{statement}
+use Rattle.report.proofs.write_sides.Tie as tie
+use Rattle.report.proofs.write_sides.Reads as reads
+use Rattle.report.proofs.write_sides.Lts as lts
+use Rattle.report.proofs.bench_ended.Reads as bench-ended-reads
+use Rattle.report.proofs.controller_ended.Reads as controller-ended-reads
+use Rattle.report.proofs.write_refusal.Reads as write-refusal-reads
+use Rattle.text.proofs.write_both.Reads as write-both-reads
+
+enum-known-verdict : tie.Need-enum-known-verdict
+enum-known-verdict c = search needs
+
+write-refusal-requires : tie.Need-write-refusal-requires
+write-refusal-requires c κs = search needs
+
+enum-told : tie.Need-enum-told
+enum-told c = search needs
+
+bench-ended-requires : tie.Need-bench-ended-requires
+bench-ended-requires c κs = search needs
+
+controller-ended-requires : tie.Need-controller-ended-requires
+controller-ended-requires c κs = search needs
+
+write-both-requires : tie.Need-write-both-requires
+write-both-requires c κs = search needs
+
+same-length : tie.Need-same-length
+same-length c = search needs
+
+returns : tie.Need-returns
+returns c = wrote-as (told-refused (c .before .before .before .before .before .before .before .before .args .a) (c .before .before .before .before .before .verdict .given .1)) (c .before .before .write-refusal .ensures)
+
+same-length-2 : tie.Need-same-length-2
+same-length-2 c = search needs
+
+returns-2 : tie.Need-returns-2
+returns-2 c = wrote-as (told-both (c .before .before .before .before .before .before .before .before .before .before .before .args .a) (c .before .before .before .before .before .before .before .before .enum-told .given .1) (c .before .before .before .before .before .bench-ended .ensures) (c .before .before .before .before .controller-ended .ensures)) (c .before .before .write-both .ensures)
+
+pub write-sides-spec : {M : Type 1} → statement M
+write-sides-spec =
+    tie.close
+    (tie.spec
+    enum-known-verdict
+    write-refusal-requires
+    enum-told
+    bench-ended-requires
+    controller-ended-requires
+    write-both-requires
+    same-length
+    returns
+    same-length-2
+    returns-2)

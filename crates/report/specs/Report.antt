@@ -1,0 +1,65 @@
+-- What program `both` prints for an input (document 01, 'The test procedure and its neighbours').
+use Prim.Native.Nat.{ℕ, zero, suc, _+_, _*_}
+use mathlib.Core.Bool.{cond}
+use mathlib.Core.List.{List, [], _∷_, _++_}
+use lib.Dec.{leb}
+use lib.IntN.{ℤ}
+use lib.ListN.{length, getD, drop}
+use Rattle.parsing.specs.Fields.{valueOf}
+use Rattle.text.specs.Text.{bothText, refusedText, noHeaderText}
+use Rattle.translator.specs.Translated.{Outcome, written, turnedDown, answerOf}
+use Rattle.agreement.specs.Sides.{Tells, refuses, tells, sidesTell}
+
+-- A field of 16 bits, and one of 32, the low byte first.
+unfoldable pub pairOf : ℕ → ℕ → ℕ
+pairOf b0 b1 = b0 + 256 * b1
+
+unfoldable pub wordOf : ℕ → ℕ → ℕ → ℕ → ℕ
+wordOf b0 b1 b2 b3 = b0 + 256 * b1 + 65536 * b2 + 16777216 * b3
+
+-- "Program `both` reads argument count (1 byte), arguments (4 each), depth (2), budget (4), then a procedure file."
+abbrev pub countOf : List ℕ → ℕ
+countOf s = getD s 0 0
+
+unfoldable pub argumentAt : List ℕ → ℕ → ℤ
+argumentAt s i = valueOf (getD s (4 * i + 1) 0) (getD s (4 * i + 2) 0) (getD s (4 * i + 3) 0) (getD s (4 * i + 4) 0)
+
+-- The first n arguments.
+abbrev pub argumentsOf : List ℕ → ℕ → List ℤ
+argumentsOf s zero = []
+argumentsOf s (suc n) = argumentsOf s n ++ (argumentAt s n ∷ [])
+
+unfoldable pub depthOf : List ℕ → ℕ
+depthOf s =
+    let at = 4 * countOf s + 1 in
+    pairOf (getD s at 0) (getD s (at + 1) 0)
+
+unfoldable pub budgetOf : List ℕ → ℕ
+budgetOf s =
+    let at = 4 * countOf s + 3 in
+    wordOf (getD s at 0) (getD s (at + 1) 0) (getD s (at + 2) 0) (getD s (at + 3) 0)
+
+-- The first four fields have 4 n + 7 bytes for n arguments.
+abbrev pub headerOf : List ℕ → ℕ
+headerOf s = 4 * countOf s + 7
+
+-- Both runs, or the refusal.
+unfoldable pub sidesText : Tells → List ℕ
+sidesText (refuses number place) = refusedText number place
+sidesText (tells target b steps x c controlled) = bothText target b steps c controlled
+
+-- "It lends 8,192 bytes for the translation, made before either run, so its 16 comes before a run's 14."
+unfoldable pub translatedText : Outcome → Tells → List ℕ
+translatedText (turnedDown number place) t = refusedText number place
+translatedText (written n) t = sidesText t
+
+-- "Its file limit is 2,048 (15 at 2048)." Each machine is lent 48 words for each of 256 frames.
+unfoldable pub fileText : List ℕ → List ℤ → ℕ → ℕ → List ℕ
+fileText s args depth budget =
+    cond (leb (length s) 2048)
+    (translatedText (answerOf s 8192) (sidesTell s args depth budget 12288 8192 12288))
+    (refusedText 15 2048)
+
+-- "Input ending inside the first four fields prints `no header`."
+unfoldable pub textOf : List ℕ → List ℕ
+textOf s = cond (leb (headerOf s) (length s)) (fileText (drop (headerOf s) s) (argumentsOf s (countOf s)) (depthOf s) (budgetOf s)) noHeaderText

@@ -1,0 +1,166 @@
+// What program `both` prints for an input.
+use agreement::Sides;
+use agreement::side_by_side;
+use parsing::Checked;
+use parsing::Refusal;
+use text::Ended;
+use text::write_both;
+use text::write_no_header;
+use text::write_refused;
+use translator::Translated;
+use translator::translate;
+ghost use mathlib.Core.Path.{_≡_};
+ghost use Prim.Native.Nat.{_+_, _*_, _≤_, _<_};
+ghost use lib.ListN.{length, take};
+ghost use Rattle.text.specs.Text.{endedAs, refusedText};
+ghost use Rattle.text.specs.Wrote.{Wrote};
+ghost use Rattle.bench.specs.Published as Bench;
+ghost use Rattle.controller.specs.Published as Controller;
+ghost use Rattle.agreement.specs.Sides.{sidesTold};
+ghost use Rattle.report.specs.Report.{pairOf, wordOf, argumentAt, argumentsOf, sidesText, fileText, textOf};
+
+// A field of 16 bits, the low byte first.
+fn pair(b0: u8, b1: u8) -> usize
+    ensures { λ r. ⌜ r ≡ pairOf b0 b1 ⌝ }
+{
+    (b0 as usize) + 256 * (b1 as usize)
+}
+
+// A field of 32 bits, the low byte first.
+fn word(b0: u8, b1: u8, b2: u8, b3: u8) -> u32
+    ensures { λ r. ⌜ r ≡ wordOf b0 b1 b2 b3 ⌝ }
+{
+    (b0 as u32) + 256 * (b1 as u32) + 65536 * (b2 as u32) + 16777216 * (b3 as u32)
+}
+
+// Argument i of the input.
+fn argument(input: &[u8], i: usize) -> i32
+    requires { ⌜ 4 * i + 4 < length (now input) ⌝ }
+    ensures { λ r. ⌜ r ≡ argumentAt (now (input .entry)) i ⌝ }
+{
+    let at = 4 * i;
+    parsing::value(input[at + 1], input[at + 2], input[at + 3], input[at + 4])
+}
+
+// The first n arguments of the input.
+fn fill(input: &[u8], n: usize, arguments: &mut [i32])
+    requires { ⌜ (n ≤ length (now arguments)) × (4 * n < length (now input)) ⌝ }
+    ensures { λ r. ⌜ take n (now (arguments .exit)) ≡ argumentsOf (now (input .entry)) n ⌝ }
+{
+    let mut i = 0;
+    while i < n {
+        arguments[i] = argument(input, i);
+        i += 1;
+    }
+}
+
+fn bench_ended(s: bench::machine::Stopped) -> Ended
+    ensures { λ r. ⌜ endedAs r ≡ Bench.stoppedAs s ⌝ }
+{
+    match s {
+        bench::machine::Stopped::Value(z) => Ended::Value(z),
+        bench::machine::Stopped::Uncaught => Ended::Uncaught,
+        bench::machine::Stopped::Spent => Ended::Spent,
+        bench::machine::Stopped::Deep => Ended::Deep,
+    }
+}
+
+fn controller_ended(s: controller::machine::Stopped) -> Ended
+    ensures { λ r. ⌜ endedAs r ≡ Controller.stoppedAs s ⌝ }
+{
+    match s {
+        controller::machine::Stopped::Value(z) => Ended::Value(z),
+        controller::machine::Stopped::Uncaught => Ended::Uncaught,
+        controller::machine::Stopped::Spent => Ended::Spent,
+        controller::machine::Stopped::Deep => Ended::Deep,
+    }
+}
+
+// "A refusal prints only `refused`, number, `at`, place."
+fn write_refusal(out: &mut [u8], r: Refusal) -> usize
+    requires { ⌜ 256 ≤ length (now out) ⌝ }
+    ensures { λ x. ⌜ Wrote 0 (refusedText (r .number) (r .place)) (now (out .entry)) x (now (out .exit)) ⌝ }
+{
+    write_refused(out, r.number as u64, r.place as u64)
+}
+
+// The three lines of both runs, or the refusal.
+fn write_sides(out: &mut [u8], a: Sides) -> usize
+    requires { ⌜ 256 ≤ length (now out) ⌝ }
+    ensures { λ r. ⌜ Wrote 0 (sidesText (sidesTold a)) (now (out .entry)) r (now (out .exit)) ⌝ }
+{
+    let verdict = a.verdict;
+    match verdict {
+        Checked::Refused(r) => write_refusal(out, r),
+        Checked::Accepted => {
+            let b = a.bench;
+            let c = a.controller;
+            let bstopped = b.stopped;
+            let cstopped = c.stopped;
+            let bended = bench_ended(bstopped);
+            let cended = controller_ended(cstopped);
+            write_both(out, a.target as u64, bended, b.steps, cended, c.steps)
+        }
+    }
+}
+
+// A file: at most 2,048 bytes, translated into 8,192, and run with 48 words lent for each of 256 frames.
+fn write_file(
+    out: &mut [u8],
+    file: &[u8],
+    arguments: &[i32],
+    depth: usize,
+    budget: u32,
+) -> usize
+    requires { ⌜ 256 ≤ length (now out) ⌝ }
+    ensures { λ r. ⌜ Wrote 0 (fileText (now (file .entry)) (now (arguments .entry)) depth budget) (now (out .entry)) r (now (out .exit)) ⌝ }
+{
+    if 2048 < file.len() {
+        return write_refused(out, 15, 2048);
+    }
+    let mut room = [0u8; 8192];
+    match translate(file, &mut room) {
+        Translated::Refused(r) => {
+            return write_refusal(out, r);
+        }
+        Translated::Written(_) => {}
+    }
+    let mut frames = [0i32; 12288];
+    let mut records = [0i32; 12288];
+    let a = side_by_side(
+        file,
+        arguments,
+        depth,
+        budget,
+        &mut frames,
+        &mut room,
+        &mut records,
+    );
+    write_sides(out, a)
+}
+
+// The text of `both` for an input, written to the front of `out`; the answer is its length.
+pub fn report(input: &[u8], out: &mut [u8; 256]) -> usize
+    ensures { λ r. ⌜ Wrote 0 (textOf (now (input .entry))) (now (out .entry)) r (now (out .exit)) ⌝ }
+{
+    if input.len() < 1 {
+        return write_no_header(out);
+    }
+    let n = input[0] as usize;
+    let header = 4 * n + 7;
+    if input.len() < header {
+        return write_no_header(out);
+    }
+    let at = 4 * n + 1;
+    let depth = pair(input[at], input[at + 1]);
+    let from = 4 * n + 3;
+    let budget = word(
+        input[from],
+        input[from + 1],
+        input[from + 2],
+        input[from + 3],
+    );
+    let mut arguments = [0i32; 256];
+    fill(input, n, &mut arguments);
+    write_file(out, &input[header..], &arguments[..n], depth, budget)
+}
