@@ -14,6 +14,7 @@ use Rattle.parsing.specs.declared.Checked.{Checked}
 use Rattle.parsing.specs.declared.Checked.the-variants.{Accepted, Refused}
 use Rattle.semantics.specs.Run.{Stop}
 use Rattle.text.specs.declared.Ended.{Ended}
+use Rattle.memory.specs.LayLaws.{length-lay}
 use Rattle.text.specs.Wrote.{Wrote}
 use Rattle.text.specs.Text.{bothText, refusedText, noHeaderText, endedAs}
 use Rattle.translator.specs.declared.Translated.{Translated}
@@ -63,6 +64,13 @@ filled-all s n i a₀ a F h =
 
 pub wrote-as : {at r : ℕ} {v w d d′ : List ℕ} → v ≡ w → Wrote at v d r d′ → Wrote at w d r d′
 wrote-as {at} {r} {v} {w} {d} {d′} e W = subst (λ (x : List ℕ). Wrote at x d r d′) e W
+
+pub wrote-within : {at r : ℕ} {w d d′ : List ℕ} → Wrote at w d r d′ → r ≤ length d′
+wrote-within {at} {r} {w} {d} {d′} W =
+    let p : r ≡ at + length w = W .past in
+    let i : r ≤ length d = W .within in
+    let l : length d′ ≡ length d = ap length (W .same) ∙ length-lay at w d (omega arith) in
+    omega arith
 
 -- ── What an answer of the call prints ───────────────────────────────────────────────────────────
 

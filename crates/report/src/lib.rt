@@ -141,7 +141,8 @@ fn write_file(
 
 // The text of `both` for an input, written to the front of `out`; the answer is its length.
 pub fn report(input: &[u8], out: &mut [u8; 256]) -> usize
-    ensures { λ r. ⌜ Wrote 0 (textOf (now (input .entry))) (now (out .entry)) r (now (out .exit)) ⌝ }
+    ensures text { λ r. ⌜ Wrote 0 (textOf (now (input .entry))) (now (out .entry)) r (now (out .exit)) ⌝ }
+    ensures within { λ r. ⌜ r ≤ length (now (out .exit)) ⌝ }
 {
     if input.len() < 1 {
         return write_no_header(out);

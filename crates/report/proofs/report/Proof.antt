@@ -2,7 +2,7 @@
 use mathlib.Core.Path.{refl, sym, ap, _∙_}
 use native.Mathlib.Omega.{arith}
 use lib.Seq.{length-take-le}
-use Rattle.report.specs.ReportLaws.{no-byte, no-header, with-header, wrote-as}
+use Rattle.report.specs.ReportLaws.{no-byte, no-header, with-header, wrote-as, wrote-within}
 use borrow.Author.Needs.{needs}
 use Rattle.report.proofs.report.Statement.{statement}
 use Rattle.report.proofs.report.Tie as tie
@@ -18,7 +18,9 @@ write-no-header-requires : tie.Need-write-no-header-requires
 write-no-header-requires c κs = search needs
 
 returns : tie.Need-returns
-returns c = let s = c .before .before .before .before in wrote-as (no-byte (s .args .input .now) (c .before .before .if1 .taken)) (c .write-no-header .ensures)
+returns c =
+    let s = c .before .before .before .before in
+    (wrote-as (no-byte (s .args .input .now) (c .before .before .if1 .taken)) (c .write-no-header .ensures), wrote-within (c .write-no-header .ensures))
 
 shared-slice-read-n : tie.Need-shared-slice-read-n
 shared-slice-read-n c = search needs
@@ -36,7 +38,9 @@ write-no-header-requires-2 : tie.Need-write-no-header-requires-2
 write-no-header-requires-2 c κs = search needs
 
 returns-2 : tie.Need-returns-2
-returns-2 c = let s = c .before .before .before .before .before .before in wrote-as (no-header (s .args .input .now) (c .before .before .if2 .taken)) (c .write-no-header2 .ensures)
+returns-2 c =
+    let s = c .before .before .before .before .before .before in
+    (wrote-as (no-header (s .args .input .now) (c .before .before .if2 .taken)) (c .write-no-header2 .ensures), wrote-within (c .write-no-header2 .ensures))
 
 mul-at : tie.Need-mul-at
 mul-at c = search needs
@@ -113,7 +117,7 @@ write-file-requires c κs = search needs
 returns-3 : tie.Need-returns-3
 returns-3 c =
     let s = c .before .before .before .before .before .before .before .before .before .before .before .before .before .before .before .before .before .before .before in
-    wrote-as (with-header (s .args .input .now) (c .before .before .before .before .before .before .before .before .before .before .before .before .before .before .before .if2 .left) refl (c .before .before .before .before .before .fill .ensures) (c .before .before .before .before .before .before .before .before .before .before .before .before .pair .ensures) (c .before .before .before .before .before .before .before .word .ensures)) (c .write-file .ensures)
+    (wrote-as (with-header (s .args .input .now) (c .before .before .before .before .before .before .before .before .before .before .before .before .before .before .before .if2 .left) refl (c .before .before .before .before .before .fill .ensures) (c .before .before .before .before .before .before .before .before .before .before .before .before .pair .ensures) (c .before .before .before .before .before .before .before .word .ensures)) (c .write-file .ensures), wrote-within (c .write-file .ensures))
 
 pub report-spec : {M : Type 1} → statement M
 report-spec =
