@@ -4,3 +4,4 @@ pub mod Sides
 pub mod StopLaws
 pub mod Theorem
 pub mod SidesLaws
+pub mod Cases

@@ -7,8 +7,9 @@ use mathlib.Core.List.{List, [], _∷_, _++_}
 use lib.Dec.{leb}
 use lib.IntN.{ℤ}
 use lib.ListN.{length, getD, take, drop, set, length-set, length-drop}
-use lib.Seq.{take-length}
-use borrow.Author.Tests.{le-leb, lt-leb}
+use lib.Seq.{take-all, take-length, take-suc-set, getD-take, length-take-le}
+use borrow.Author.Tests.{le-leb, lt-leb, leb-true, leb-false}
+use Rattle.parsing.specs.Bytes.{Bytes}
 use Rattle.parsing.specs.declared.Refusal.{Refusal}
 use Rattle.parsing.specs.declared.Checked.{Checked}
 use Rattle.parsing.specs.declared.Checked.the-variants.{Accepted, Refused}
@@ -28,11 +29,6 @@ use Rattle.report.specs.Report.{pairOf, wordOf, countOf, argumentAt, arg
 
 -- ── Arguments ───────────────────────────────────────────────────────────────────────────────────
 
-pub take-set : (i : ℕ) (a : List ℤ) (v : ℤ) → i < length a → take (suc i) (set a i v) ≡ take i a ++ (v ∷ [])
-take-set i [] v h = absurd (omega arith)
-take-set zero (x ∷ a) v h = refl
-take-set (suc i) (x ∷ a) v h = ap (λ (l : List ℤ). x ∷ l) (take-set i a v (omega arith))
-
 -- After i of n arguments.
 pub record Filled (s : List ℕ) (n i : ℕ) (a₀ a : List ℤ) : Type 0 where
   pub few : i ≤ n
@@ -50,7 +46,7 @@ filled-more s n i a₀ a {v} {w} F h l e q =
       few = omega arith;
       front =
           ap (λ (m : ℕ). take m (set a i w)) j
-          ∙ (take-set i a w (omega arith)
+          ∙ (take-suc-set a i w (omega arith)
           ∙ (ap (λ (x : List ℤ). x ++ (w ∷ [])) (F .front)
           ∙ (ap (λ (x : ℤ). argumentsOf s i ++ (x ∷ [])) (q ∙ e) ∙ ap (λ (m : ℕ). argumentsOf s m) (sym j))));
       long = length-set a i w ∙ F .long;
@@ -126,3 +122,26 @@ with-header s h {k} {depth} {budget} {args} ek ea ed eb = rw (le-leb (headerOf s
   where
     whole : take k (drop (headerOf s) s) ≡ drop (headerOf s) s
     whole = ap (λ (m : ℕ). take m (drop (headerOf s) s)) (ek ∙ sym (length-drop (headerOf s) s)) ∙ take-length (drop (headerOf s) s)
+
+-- ── What is left unread changes nothing ─────────────────────────────────────────────────────────
+
+-- An input with more than 2,048 bytes behind its header.
+long-input : (s : List ℕ) → headerOf s + 2048 < length s → refusedText 15 2048 ≡ textOf s
+unfolding textOf
+long-input s h =
+    rw (le-leb (headerOf s) (length s) (omega arith))
+    (let l : length (drop (headerOf s) s) ≡ length s - headerOf s = length-drop (headerOf s) s in
+    file-15 (drop (headerOf s) s) (argumentsOf s (countOf s)) (depthOf s) (budgetOf s) (omega arith))
+
+-- The first 4,096 bytes of an input make its text.
+pub whole-input : (s : List ℕ) → Bytes s → textOf (take 4096 s) ≡ textOf s
+whole-input s bytes = by (leb (length s) 4096) refl
+  where
+    by : (c : Bool) → leb (length s) 4096 ≡ c → textOf (take 4096 s) ≡ textOf s
+    by true e = ap textOf (take-all 4096 s (leb-true (length s) 4096 e))
+    by false e =
+        let l : 4096 < length s = leb-false (length s) 4096 e in
+        let b : countOf s < 256 = bytes 0 in
+        let q : countOf (take 4096 s) ≡ countOf s = getD-take 4096 s 0 0 (omega arith) in
+        let k : length (take 4096 s) ≡ 4096 = length-take-le 4096 s (omega arith) in
+        sym (long-input (take 4096 s) (omega arith)) ∙ long-input s (omega arith)

@@ -105,13 +105,7 @@ fn write_sides(out: &mut [u8], a: Sides) -> usize
 }
 
 // A file: at most 2,048 bytes, translated into 8,192, and run with 48 words lent for each of 256 frames.
-fn write_file(
-    out: &mut [u8],
-    file: &[u8],
-    arguments: &[i32],
-    depth: usize,
-    budget: u32,
-) -> usize
+fn write_file(out: &mut [u8], file: &[u8], arguments: &[i32], depth: usize, budget: u32) -> usize
     requires { ⌜ 256 ≤ length (now out) ⌝ }
     ensures { λ r. ⌜ Wrote 0 (fileText (now (file .entry)) (now (arguments .entry)) depth budget) (now (out .entry)) r (now (out .exit)) ⌝ }
 {

@@ -1,0 +1,92 @@
+-- Document 01's starred cases ('The test procedure and its neighbours'), as one table under one theorem, by computation of the rules
+-- from the bytes of the files. Steps are bench, controller.
+use Prim.Native.Nat.{ℕ, _+_}
+use mathlib.Core.Path.{_≡_, refl}
+use mathlib.Core.List.{List, [], _∷_, _++_}
+use lib.IntN.{ℤ, pos, negsuc}
+use lib.ListN.{take, set}
+use Rattle.semantics.specs.Value.{wrapped, minus, atMost}
+use Rattle.semantics.specs.Run.{value, uncaught, Stop, ended, spent, deep}
+use Rattle.semantics.specs.Bench.{step, bench}
+use Rattle.semantics.specs.WellFormed.{All}
+use Rattle.semantics.specs.Controller.{controlStep, controller}
+use Rattle.semantics.specs.Translation.{code, translate}
+use Rattle.semantics.specs.Extras.{extras}
+use Rattle.parsing.specs.Parser.{Verdict, accepted, refused}
+use Rattle.parsing.specs.Fields as Fields
+use Rattle.procedure_layout.specs.Operation as Operation
+use Rattle.procedure_layout.specs.Layout as Layout
+use Rattle.procedure_names.specs.Names as Names
+use Rattle.procedure_file.specs.Check.{checkOf, programOf}
+use Rattle.target_tags.specs.Tag as Tag
+use Rattle.target_tags.specs.Names as TagNames
+use Rattle.target_file.specs.Check as Target
+use Rattle.target_file.specs.Layout as TargetLayout
+use Rattle.target_file.specs.Writing as Writing
+use Rattle.translator.specs.Translated.{translationOf}
+use Rattle.agreement.specs.Sides.{mainVerdict, wordsVerdict, judgedCall, sidesVerdict, tells, controllerBudget, sidesTell}
+
+-- File T.
+abbrev pub fileT : List ℕ
+fileT =
+    0x53 ∷ 0x50 ∷ 0x46 ∷ 1 ∷ 0 ∷ 2 ∷
+    1 ∷ 1 ∷ 2 ∷
+    5 ∷ 1 ∷
+    2 ∷ 4 ∷ 1 ∷ 1 ∷ 1 ∷ 0 ∷ 6 ∷ 1 ∷
+    0 ∷ 1 ∷ 1 ∷ 7 ∷ 0 ∷ 0 ∷ 0 ∷ 6 ∷ 1 ∷
+    1 ∷ 1 ∷ 2 ∷
+    7 ∷ 0 ∷ 1 ∷ 1 ∷ 2 ∷
+    0 ∷ 8 ∷
+    0 ∷ 6 ∷ 0 ∷ []
+
+-- Main without variables that only raises.
+abbrev pub onlyRaises : List ℕ
+onlyRaises = 0x53 ∷ 0x50 ∷ 0x46 ∷ 1 ∷ 0 ∷ 1 ∷ 0 ∷ 0 ∷ 0 ∷ 8 ∷ []
+
+-- Main, one local: goto 1; label 1, handler 2: call a function that has one local and returns it, then raise; label 2: return the local.
+abbrev pub callsThenRaises : List ℕ
+callsThenRaises =
+    0x53 ∷ 0x50 ∷ 0x46 ∷ 1 ∷ 0 ∷ 2 ∷
+    0 ∷ 1 ∷ 2 ∷
+    5 ∷ 1 ∷
+    2 ∷ 4 ∷ 0 ∷ 1 ∷ 0 ∷ 8 ∷
+    0 ∷ 6 ∷ 0 ∷
+    0 ∷ 1 ∷ 0 ∷
+    6 ∷ 0 ∷ []
+
+-- A row of the table.
+pub data Row : Type 0 where
+  -- A file, and the checker's answer.
+  checks : List ℕ → Verdict → Row
+  -- File, arguments, depth, budget; the bytes of the translation; how both machines stop; bench steps, controller steps.
+  runs : List ℕ → List ℤ → ℕ → ℕ → ℕ → Stop (Unit {0}) → ℕ → ℕ → Row
+  -- y less z is.
+  differs : ℤ → ℤ → ℤ → Row
+
+abbrev pub Holds : Row → Type 0
+Holds (checks s v) = checkOf s ≡ v
+Holds (runs s args depth budget target stop n m) = (x : ℕ) × (sidesTell s args depth budget 12288 8192 12288 ≡ tells target stop n x stop m)
+Holds (differs y z v) = minus y z ≡ v
+
+abbrev pub table : List Row
+table =
+    runs fileT (pos 5 ∷ []) 256 100 106 (ended (value (pos 5))) 5 9
+    ∷ runs fileT (pos 0 ∷ []) 256 100 106 (ended (value (pos 7))) 6 11
+    ∷ runs fileT (pos 5 ∷ []) 0 100 106 (deep tt) 1 2
+    ∷ runs fileT (pos 5 ∷ []) 256 0 106 (spent tt) 0 1
+    ∷ runs fileT (pos 5 ∷ []) 256 4 106 (spent tt) 4 8
+    ∷ runs fileT (pos 5 ∷ []) 256 5 106 (ended (value (pos 5))) 5 9
+    ∷ differs (negsuc 2147483647) (pos 1) (pos 2147483647)
+    ∷ checks [] (refused 3 0)
+    ∷ checks (0x53 ∷ 0x50 ∷ 0x47 ∷ []) (refused 1 2)
+    ∷ checks (take 40 fileT) (refused 3 40)
+    ∷ checks (fileT ++ 0 ∷ []) (refused 4 41)
+    ∷ checks (set fileT 11 3) (refused 8 11)
+    ∷ checks (set fileT 28 2) (refused 10 15)
+    ∷ runs onlyRaises [] 256 100 12 (ended uncaught) 1 1
+    ∷ runs callsThenRaises [] 256 100 72 (ended (value (pos 0))) 5 8
+    ∷ []
+
+pub cases : All Holds table
+unfolding sidesTell controllerBudget sidesVerdict judgedCall wordsVerdict mainVerdict translationOf checkOf programOf Layout.program Layout.function Layout.heading Layout.labelled Layout.block Layout.walk Operation.operationAt Operation.constantAt Operation.copyAt Operation.differenceAt Operation.callAt Operation.gotoAt Operation.returnAt Operation.branchAt Operation.endAt Fields.version Fields.count Fields.ended Fields.valueOf Names.namesOf Writing.writing Target.codeOf TargetLayout.code TargetLayout.functions TargetLayout.function TargetLayout.expression TargetLayout.pair Tag.tagAt Tag.constantAt Tag.copyAt Tag.differenceAt Tag.jumpAt Tag.resumeAt Tag.handleAt Tag.branchAt Tag.continuationAt Tag.bothAt TagNames.judged wrapped minus atMost step bench code translate controlStep controller extras
+cases = ((_, refl), ((_, refl), ((_, refl), ((_, refl), ((_, refl), ((_, refl), (refl, (refl, (refl, (refl, (refl, (refl, (refl, ((_, refl), ((_, refl), tt)))))))))))))))
