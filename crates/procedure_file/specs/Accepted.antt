@@ -1,19 +1,16 @@
 -- Demand 1 for procedure files: a file is accepted exactly when it is the writing of a program within document 01's ranges that is
 -- well-formed (figure 3), and at most 32,768 bytes long.
-use Prim.Native.Nat.{ℕ, _≤_, _<_}
+use Prim.Native.Nat.{ℕ, _≤_}
 use mathlib.Core.Path.{_≡_}
 use mathlib.Core.Logic.{_↔_}
 use mathlib.Core.List.{List}
-use lib.ListN.{length, getD}
+use lib.ListN.{length}
 use Rattle.parsing.specs.Parser.{accepted}
+use Rattle.parsing.specs.Bytes.{Bytes}
 use Rattle.semantics.specs.Program.{Program}
 use Rattle.semantics.specs.WellFormed.{WellFormed}
 use Rattle.procedure_names.specs.Writing.{writing, InRange}
 use Rattle.procedure_file.specs.Check.{checkOf, programOf}
-
--- A list of bytes.
-abbrev pub Bytes : List ℕ → Type 0
-Bytes s = (i : ℕ) → getD s i 0 < 256
 
 -- A program that has a file.
 pub record HasFile (P : Program) : Type 0 where

@@ -13,7 +13,8 @@ use Rattle.procedure_layout.specs.Layout.{program}
 use Rattle.procedure_names.specs.Writing.{writing}
 use Rattle.procedure_names.specs.Names.{namesOf, firstWrong}
 use Rattle.procedure_file.specs.Check.{named, checkOf, programRead, programOf}
-use Rattle.procedure_file.specs.Accepted.{Bytes, HasFile, Acceptance}
+use Rattle.parsing.specs.Bytes.{Bytes}
+use Rattle.procedure_file.specs.Accepted.{HasFile, Acceptance}
 use Rattle.procedure_file.specs.WrittenLaws.{ReadProgram, read-program, written, in-range}
 use Rattle.procedure_file.specs.ReadsBackLaws.{reads-program}
 use Rattle.procedure_file.specs.BytesLaws.{writing-bytes}

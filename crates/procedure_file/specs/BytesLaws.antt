@@ -11,8 +11,9 @@ use mir.ValLaws.{ofZ-fits}
 use Rattle.parsing.specs.Parser.{joined}
 use Rattle.semantics.specs.Program.{Block, constant, copy, difference, call, goto, return, branch, raise, Labelled, Function, Program, variables, functionOf, noFunction}
 use Rattle.semantics.specs.WellFormed.{All, WellFormedBlock, WellFormedLabelled, WellFormedFunction, WellFormed}
-use Rattle.procedure_names.specs.Writing.{valueBytes, blockBytes, labelledBytes, functionBytes, writing, ValuesFit, FunctionInRange, InRange}
-use Rattle.procedure_file.specs.Accepted.{Bytes, HasFile}
+use Rattle.parsing.specs.Bytes.{Bytes, valueBytes}
+use Rattle.procedure_names.specs.Writing.{blockBytes, labelledBytes, functionBytes, writing, ValuesFit, FunctionInRange, InRange}
+use Rattle.procedure_file.specs.Accepted.{HasFile}
 use Rattle.procedure_file.specs.ReadsBackLaws.{all-at}
 
 -- Bytes, one by one.

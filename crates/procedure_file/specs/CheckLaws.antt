@@ -11,7 +11,7 @@ use Rattle.semantics.specs.Program.{Program}
 use Rattle.procedure_layout.specs.Layout.{program}
 use Rattle.procedure_names.specs.Names.{namesOf, firstWrong}
 use Rattle.procedure_file.specs.Check.{named, checkOf, programOf}
-use Rattle.procedure_file.specs.Accepted.{Bytes}
+use Rattle.parsing.specs.Bytes.{Bytes}
 use Rattle.procedure_file.specs.AcceptedLaws.{Laid, laid-by, check-layout}
 
 module _ (s : List ℕ) (short : length s ≤ 32768) where

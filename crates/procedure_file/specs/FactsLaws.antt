@@ -21,7 +21,7 @@ use Rattle.procedure_file.specs.Check.{checkOf, programOf}
 use Rattle.procedure_layout.specs.Rest.{restAt}
 use Rattle.procedure_layout.specs.After.{afterOf}
 use Rattle.procedure_file.specs.Places.{startOf, noLabelled, blockOf, handlerOf}
-use Rattle.procedure_file.specs.Accepted.{Bytes}
+use Rattle.parsing.specs.Bytes.{Bytes}
 use Rattle.procedure_file.specs.Facts.{Stands, Facts}
 use Rattle.procedure_layout.specs.WalkLaws.{rest-law}
 use Rattle.procedure_layout.specs.LayoutLaws.{onward-moves}

@@ -1,4 +1,4 @@
--- Procedure files. Definitions, in reading order: Check, Accepted, Places, Tables, Loaded, Lookup, Facts, Cases. Laws: the others.
+-- Procedure files. Definitions, in reading order: Check, Accepted, Places, Tables, Loaded, Lookup, Facts. Laws: the others.
 pub mod Check
 pub mod Accepted
 pub mod Places
@@ -6,7 +6,6 @@ pub mod Tables
 pub mod Loaded
 pub mod Lookup
 pub mod Facts
-pub mod Cases
 pub mod WrittenLaws
 pub mod ReadsBackLaws
 pub mod BytesLaws

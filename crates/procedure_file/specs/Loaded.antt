@@ -4,7 +4,7 @@ use mathlib.Core.Path.{_≡_}
 use mathlib.Core.List.{List}
 use Rattle.parsing.specs.Parser.{Verdict, accepted, refused}
 use Rattle.procedure_file.specs.Check.{checkOf, programOf}
-use Rattle.procedure_file.specs.Accepted.{Bytes}
+use Rattle.parsing.specs.Bytes.{Bytes}
 use Rattle.procedure_file.specs.Tables.{Tables}
 
 -- An accepted file and its tables.

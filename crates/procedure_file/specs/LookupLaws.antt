@@ -19,7 +19,7 @@ use Rattle.procedure_file.specs.declared.lookup.Place.the-variants.{At, 
 use Rattle.procedure_layout.specs.Layout.{block}
 use Rattle.procedure_layout.specs.After.{endOf}
 use Rattle.procedure_file.specs.Check.{checkOf, programOf}
-use Rattle.procedure_file.specs.Accepted.{Bytes}
+use Rattle.parsing.specs.Bytes.{Bytes}
 use Rattle.procedure_file.specs.Places.{labelPlace, startOf}
 use Rattle.procedure_file.specs.Tables.{slot}
 use Rattle.procedure_file.specs.Loaded.{LoadedOr}

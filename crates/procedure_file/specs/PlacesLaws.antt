@@ -15,7 +15,7 @@ use Rattle.procedure_layout.specs.Operation.{operationAt}
 use Rattle.procedure_layout.specs.Layout.{blockFrom, before, argumentsAt, block, labelled, function}
 use Rattle.procedure_names.specs.Writing.{labelledBytes, functionBytes}
 use Rattle.procedure_layout.specs.Rest.{restFrom, restAt}
-use Rattle.procedure_file.specs.Accepted.{Bytes}
+use Rattle.parsing.specs.Bytes.{Bytes}
 use Rattle.procedure_file.specs.Places.{functionPlace, labelPlace, startOf, noLabelled, blockOf, handlerOf}
 use Rattle.procedure_layout.specs.OperationLaws.{op-constant, op-copy, op-difference, op-call, op-goto, op-return, op-branch, op-raise}
 use Rattle.procedure_layout.specs.WalkLaws.{block-law, rest-law}

@@ -18,7 +18,8 @@ use Rattle.procedure_layout.specs.declared.operation.Operation.{Operation}
 use Rattle.procedure_layout.specs.declared.operation.Operation.the-variants.{Constant, Copy, Difference, Call, Goto, Return, Branch, Raise}
 use Rattle.procedure_layout.specs.Operation.{operationAt}
 use Rattle.procedure_layout.specs.Layout.{spf, argumentsAt, blockFrom, before, block, labelled, heading, function, program}
-use Rattle.procedure_names.specs.Writing.{valueBytes, blockBytes, labelledBytes, functionBytes, writing, ValuesFit, FunctionInRange, InRange}
+use Rattle.parsing.specs.Bytes.{valueBytes}
+use Rattle.procedure_names.specs.Writing.{blockBytes, labelledBytes, functionBytes, writing, ValuesFit, FunctionInRange, InRange}
 use Rattle.procedure_layout.specs.OperationLaws.{op-constant, op-copy, op-difference, op-call, op-goto, op-return, op-branch, op-raise}
 use Rattle.procedure_layout.specs.WalkLaws.{block-law}
 

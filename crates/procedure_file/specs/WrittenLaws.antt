@@ -15,8 +15,8 @@ use Rattle.parsing.specs.WroteLaws.{Wrote, wrote-join, wrote-cons, wrote-byte, 
 use Rattle.semantics.specs.Program.{Block, Labelled, Function, Program}
 use Rattle.semantics.specs.WellFormed.{All}
 use Rattle.procedure_layout.specs.Layout.{spf, argumentsAt, block, labelled, Heading, heading, function, program}
-use Rattle.procedure_names.specs.Writing.{valueBytes, blockBytes, labelledBytes, functionBytes, writing, ValuesFit, FunctionInRange, InRange}
-use Rattle.procedure_file.specs.Accepted.{Bytes}
+use Rattle.parsing.specs.Bytes.{Bytes, valueBytes}
+use Rattle.procedure_names.specs.Writing.{blockBytes, labelledBytes, functionBytes, writing, ValuesFit, FunctionInRange, InRange}
 use Rattle.procedure_layout.specs.LayoutLaws.{HeadingAt, read-heading}
 use Rattle.procedure_layout.specs.BlockLaws.{ReadBlock, readConstant, readCopy, readDifference, readCall, readGoto, readReturn, readBranch, readRaise, read-block}
 

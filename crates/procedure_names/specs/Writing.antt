@@ -1,19 +1,13 @@
 -- The writing of a program as bytes (document 01, 'The procedure file').
-use Prim.Native.Nat.{ℕ, _/_, _%_, _≤_}
+use Prim.Native.Nat.{ℕ, _≤_}
 use mathlib.Core.List.{List, [], _∷_, _++_}
-use lib.IntN.{ℤ}
 use lib.ListN.{length}
 use mir.Syntax.{w32}
-use mir.Val.{ofZ, SFits}
+use mir.Val.{SFits}
 use Rattle.parsing.specs.Parser.{joined}
+use Rattle.parsing.specs.Bytes.{valueBytes}
 use Rattle.semantics.specs.Program.{Block, constant, copy, difference, call, goto, return, branch, raise, Labelled, Function, Program}
 use Rattle.semantics.specs.WellFormed.{All}
-
--- The four bytes of a signed 32-bit value, the low byte first; `ofZ w32` is the library's 32 bits of it.
-abbrev pub valueBytes : ℤ → List ℕ
-valueBytes i =
-    let n = ofZ w32 i in
-    n % 256 ∷ n / 256 % 256 ∷ n / 256 / 256 % 256 ∷ n / 256 / 256 / 256 ∷ []
 
 abbrev pub blockBytes : Block → List ℕ
 blockBytes (constant x i b) = 1 ∷ x ∷ (valueBytes i ++ blockBytes b)

@@ -16,7 +16,7 @@ pub enum Ended {
 }
 
 // A word.
-pub fn put_bytes(out: &mut [u8], at: usize, word: &[u8]) -> usize
+fn put_bytes(out: &mut [u8], at: usize, word: &[u8]) -> usize
     requires { ⌜ at + length (now word) ≤ length (now out) ⌝ }
     ensures { λ r. ⌜ Wrote at (now (word .entry)) (now (out .entry)) r (now (out .exit)) ⌝ }
 {
@@ -56,7 +56,7 @@ fn put_digits(out: &mut [u8], at: usize, k: usize, n: u64) -> usize
 }
 
 // A number in decimal.
-pub fn put_decimal(out: &mut [u8], at: usize, n: u64) -> usize
+fn put_decimal(out: &mut [u8], at: usize, n: u64) -> usize
     requires { ⌜ at + 20 ≤ length (now out) ⌝ }
     ensures { λ r. ⌜ Wrote at (decimal n) (now (out .entry)) r (now (out .exit)) ⌝ }
 {
@@ -75,7 +75,7 @@ pub fn magnitude(v: i32) -> u64
 }
 
 // A value in decimal.
-pub fn put_signed(out: &mut [u8], at: usize, v: i32) -> usize
+fn put_signed(out: &mut [u8], at: usize, v: i32) -> usize
     requires { ⌜ at + 21 ≤ length (now out) ⌝ }
     ensures { λ r. ⌜ Wrote at (signed v) (now (out .entry)) r (now (out .exit)) ⌝ }
 {
@@ -113,7 +113,7 @@ fn put_ended(out: &mut [u8], at: usize, e: Ended) -> usize
 }
 
 // A machine's end and steps.
-pub fn put_machine(out: &mut [u8], at: usize, name: &[u8], e: Ended, steps: u64) -> usize
+fn put_machine(out: &mut [u8], at: usize, name: &[u8], e: Ended, steps: u64) -> usize
     requires { ⌜ at + length (now name) + 56 ≤ length (now out) ⌝ }
     ensures { λ r. ⌜ Wrote at (machineLine (now (name .entry)) (endedAs e) steps) (now (out .entry)) r (now (out .exit)) ⌝ }
 {

@@ -1,0 +1,383 @@
+#!/usr/bin/env python3
+"""Writes the cases of crates/both_cases and the texts expected: run in the repository's root.
+
+    tools/both_cases.py VECTORS PEER
+
+VECTORS is the file of vectors of program `both`; PEER is a program that reads one input of `both` and prints its text, written by other
+hands than the crates. The text of a vector is the one that the vectors give; the text of any other case is the peer's, and where document
+01 lays it down it is written here too. Where a text given and the peer's differ, the one given is taken, and the difference is told.
+"""
+import os
+import random
+import subprocess
+import sys
+from collections import Counter
+
+vectors, peer = sys.argv[1], os.path.abspath(sys.argv[2])
+cases, differences = [], []
+
+
+def peer_text(data):
+    return subprocess.run([peer], input=data, capture_output=True, timeout=10, check=True).stdout.decode()
+
+
+# An input of `both`, and the text that it is to print where this is laid down.
+def add_input(data, given=None):
+    assert len(data) <= 4096
+    text = peer_text(data)
+    if given is not None and given != text:
+        differences.append((data.hex(), given, text))
+    cases.append((data, text if given is None else given))
+    return cases[-1][1]
+
+
+def header(arguments, depth, budget):
+    values = b"".join((a % 2 ** 32).to_bytes(4, "little") for a in arguments)
+    return bytes([len(arguments)]) + values + depth.to_bytes(2, "little") + budget.to_bytes(4, "little")
+
+
+def add(file, arguments, depth, budget, given=None):
+    return add_input(header(arguments, depth, budget) + file, given)
+
+
+def refused(number, place=0):
+    return f"refused {number} at {place}\n"
+
+
+# Both machines come to the same end.
+def ended(target, end, bench, controller):
+    return f"target {target}\nbench {end} steps {bench}\ncontroller {end} steps {controller}\n"
+
+
+no_header = "no header\n"
+most = 2 ** 32 - 1
+
+for line in open(vectors):
+    if not line.startswith("#") and line.strip():
+        data, text = line.split(":")
+        add_input(bytes.fromhex(data.strip()), text.strip().replace(" | ", "\n") + "\n")
+from_vectors = len(cases)
+
+
+# Operations, functions and procedures.
+def constant(v, value):
+    return bytes([1, v]) + (value % 2 ** 32).to_bytes(4, "little")
+
+
+def duplicate(v, y):
+    return bytes([2, v, y])
+
+
+def difference(v, y, z):
+    return bytes([3, v, y, z])
+
+
+def call(v, function, arguments):
+    return bytes([4, v, function, len(arguments), *arguments])
+
+
+def goto(label):
+    return bytes([5, label])
+
+
+def back(v):
+    return bytes([6, v])
+
+
+def branch(y, z, label, other):
+    return bytes([7, y, z, label, other])
+
+
+throw = bytes([8])
+
+
+# A function: its counts, the operations of its entry block, and handler and operations of each labelled block.
+class Function:
+    def __init__(self, parameters, locals_, entry, *blocks):
+        self.parameters, self.locals, self.entry, self.blocks = parameters, locals_, entry, blocks
+
+    def written(self):
+        labelled = b"".join(bytes([handler]) + b"".join(block) for handler, block in self.blocks)
+        return bytes([self.parameters, self.locals, len(self.blocks)]) + b"".join(self.entry) + labelled
+
+    # The length of the function and its labelled blocks in the translated file.
+    def translated(self):
+        values = self.parameters + self.locals
+
+        def length(operation, handler):
+            jump = 6 + values
+            if operation[0] == 4:
+                rest = 6 + operation[3]
+                return 6 + rest + 2 + jump if handler else 5 + rest
+            raised = jump if handler else 2
+            return {1: 6, 2: 3, 3: 4, 5: jump, 6: 3, 7: 5 + 2 * jump, 8: raised}[operation[0]]
+
+        entry = 3 + 6 * self.locals + sum(length(o, 0) for o in self.entry)
+        return entry + sum(3 + sum(length(o, handler) for o in block) for handler, block in self.blocks)
+
+
+def written(*functions):
+    return b"SPF\1\0" + bytes([len(functions)]) + b"".join(f.written() for f in functions)
+
+
+def translated(*functions):
+    return 7 + sum(f.translated() for f in functions)
+
+
+# An accepted procedure, run: the first line is known from the rules of translation.
+def add_run(functions, arguments, depth, budget, given=None):
+    text = add(written(*functions), arguments, depth, budget, given)
+    lines = text.splitlines()
+    assert lines[0] == f"target {translated(*functions)}", (lines, translated(*functions))
+    ends = [line.split(" steps ")[0].split(" ", 1) for line in lines[1:]]
+    assert [e[0] for e in ends] == ["bench", "controller"] and ends[0][1] == ends[1][1], lines
+    return text
+
+
+# File T of document 01: its own cases, and every budget up to past its end.
+T = [
+    Function(1, 1, [goto(1)], (2, [call(1, 1, [0]), back(1)]), (0, [constant(1, 7), back(1)])),
+    Function(1, 1, [branch(0, 1, 1, 2)], (0, [throw]), (0, [back(0)]))]
+file = written(*T)
+assert file.hex() == "5350460100020101020501020401010100060100010107000000060101010207000101020008000600"
+add_run(T, [5], 256, 100, ended(106, "value 5", 5, 9))
+add_run(T, [0], 256, 100, ended(106, "value 7", 6, 11))
+add_run(T, [5], 0, 100, ended(106, "deep", 1, 2))
+for argument, end, steps in ((5, "value 5", [1, 2, 5, 7, 8, 9]), (0, "value 7", [1, 2, 5, 7, 9, 10, 11])):
+    for budget in range(13):
+        if budget < len(steps) - 1:
+            given = ended(106, "spent", budget, steps[budget])
+        else:
+            given = ended(106, end, len(steps) - 1, steps[-1])
+        add_run(T, [argument], 256, budget, given)
+
+# What the caller can cause, and its order after what the file's writer can.
+for arguments in ([1, 2], [], [0] * 8, [0] * 255):
+    add(file, arguments, 256, 100, refused(14))
+    add(file, arguments, 257, 100, refused(14))
+for depth in (257, 65535):
+    for budget in (0, 100, most):
+        add(file, [5], depth, budget, refused(16))
+for data, given in (
+        (b"", refused(3, 0)), (b"SPG", refused(1, 2)), (file[:-1], refused(3, 40)), (file + b"\0", refused(4, 41)),
+        (file[:11] + b"\3" + file[12:], refused(8, 11)), (file[:28] + b"\2" + file[29:], refused(10, 15))):
+    add(data, [5], 256, 100, given)
+    add(data, [5, 6], 257, 100, given)
+
+# Inputs that end inside the header: at each length, but with 255 arguments only near the ends and some between.
+for count in (0, 1, 8, 255):
+    whole = header([-1] * count, 257, most)
+    assert len(whole) == 4 * count + 7
+    some = [1, 2, 3, 4, 5, 254, 255, 256, 257, 511, 512, 513, *range(1016, 1027)]
+    for n in some if count == 255 else range(min(count, 1), len(whole)):
+        add_input(whole[:n], no_header)
+    add_input(whole, refused(3, 0))
+
+# Files of 2,047 to 2,049 bytes and more. `filled` has n bytes, all of them operations of one block.
+def filled(n):
+    left = n - 11
+    constants, copies = divmod(left, 6)
+    assert copies in (0, 3)
+    return [Function(0, 1, [constant(0, i - 100) for i in range(constants)] + [duplicate(0, 0)] * (copies // 3) + [back(0)])]
+
+
+full, over = filled(2048), written(*filled(2051))[:2049]
+long = written(*full)
+assert len(long) == 2048 and len(over) == 2049
+for budget in (341, most):
+    add_run(full, [], 0, budget, ended(2056, "value 238", 341, 342))
+add_run(full, [], 0, 340, ended(2056, "spent", 340, 341))
+add(long, [1], 256, 100, refused(14))
+add(long, [1] * 255, 256, 100, refused(14))
+add(long, [], 257, 100, refused(16))
+add(b"X" + long[1:], [], 256, 100, refused(1, 0))
+add(long[:2] + b"X" + long[3:], [1], 257, 100, refused(1, 2))
+add(over[:2048], [], 256, 100, refused(3, 2048))
+add(written(*filled(2045)) + b"\0\0\0", [], 256, 100, refused(4, 2045))
+add(long[:2046] + b"\6\1", [], 256, 100, refused(7, 2047))
+add(long[:2046] + b"\5\0", [], 256, 100, refused(8, 2047))
+add(long[:2046] + b"\x09\0", [], 256, 100, refused(6, 2046))
+for data in (over, b"X" + over[1:], over[:3] + b"\2" + over[4:], long + b"\0", bytes(2049), bytes(2050), bytes(3000)):
+    add(data, [], 256, 100, refused(15, 2048))
+    add(data, [1], 257, 100, refused(15, 2048))
+add(b"X" + over[1:], [1] * 255, 65535, most, refused(15, 2048))
+add(bytes(4089), [], 256, 100, refused(15, 2048))
+
+
+# Three functions of 32 variables; the first goes through all its blocks. The operations before the last return make the length of the
+# translation what it is to be.
+def wide(length):
+    def made(some):
+        last = [(0, [goto(1 + i % 62)]) for i in range(62)]
+        main = [(i % 3, [goto(i + 2)]) for i in range(62)] + [(0, [back(0)])]
+        return [
+            Function(8, 24, [goto(1)], *main), Function(8, 24, [back(0)], *last), Function(8, 24, [*some, back(31)], *last[:60])]
+
+    left = length - translated(*made([]))
+    copies = next(n for n in range(left) if (left - 3 * n) % 4 == 0)
+    functions = made([duplicate(31, 0)] * copies + [difference(31, 0, 0)] * ((left - 3 * copies) // 4))
+    assert translated(*functions) == length and len(written(*functions)) <= 2048
+    return functions
+
+
+for length in (8191, 8192):
+    add_run(wide(length), [9, 0, 0, 0, 0, 0, 0, 0], 256, 100, ended(length, "value 9", 64, 88))
+    add_run(wide(length), [9, 0, 0, 0, 0, 0, 0, 0], 0, 30, ended(length, "spent", 30, 54))
+add(written(*wide(8192)), [9], 256, 100, refused(14))
+add(written(*wide(8192)), [9], 257, 100, refused(14))
+add(written(*wide(8192)), [9] * 8, 257, 100, refused(16))
+for length in (8193, 8194, 9000):
+    for arguments in ([9] * 8, [9] * 7, [], [9] * 255):
+        for depth in (256, 257):
+            add(written(*wide(length)), arguments, depth, 100, refused(16))
+beyond = written(*wide(8193))
+add(beyond[:-1] + b"\x3f", [9], 257, 100, refused(8, len(beyond) - 1))
+add(beyond + b"\0", [9], 257, 100, refused(4, len(beyond)))
+
+# Ends of the range.
+least, greatest = -2 ** 31, 2 ** 31 - 1
+ends = (least, least + 1, -1, 0, 1, greatest - 1, greatest)
+for value in ends:
+    add_run([Function(0, 1, [constant(0, value), back(0)])], [], 0, 2, ended(25, f"value {value}", 2, 3))
+    add_run([Function(1, 0, [back(0)])], [value], 0, 1, ended(13, f"value {value}", 1, 1))
+less = [Function(2, 0, [difference(0, 0, 1), back(0)])]
+smaller = [Function(2, 0, [branch(0, 1, 1, 2)], (0, [back(0)]), (0, [back(1)]))]
+for y, z, value in (
+        (least, 1, greatest), (greatest, -1, least), (least, greatest, 1), (greatest, least, -1), (0, least, least), (-1, least, greatest),
+        (least, least, 0)):
+    add_run(less, [y, z], 0, 100, ended(17, f"value {value}", 2, 2))
+    add_run(smaller, [y, z], 0, 100, ended(translated(*smaller), f"value {min(y, z)}", 2, 3))
+
+# A main that only raises, and one whose callee's value is thrown away (document 01).
+raising = [Function(0, 0, [throw])]
+lost = [Function(0, 1, [goto(1)], (2, [call(0, 1, []), throw]), (0, [back(0)])), Function(0, 1, [back(0)])]
+for budget in (1, most):
+    add_run(raising, [], 0, budget, ended(12, "uncaught", 1, 1))
+add_run(raising, [], 0, 0, ended(12, "spent", 0, 0))
+add_run(lost, [], 256, 100, ended(translated(*lost), "value 0", 5, 8))
+
+# Procedures that call themselves: they go down as often as the argument says. The first comes back and counts, the second raises at the
+# bottom without a handler, and the third has a handler in each second frame, which raises again where nothing is left of its argument.
+counting = [Function(1, 2, [branch(0, 1, 1, 2)], (0, [back(1)]), (0, [
+    constant(1, 1), difference(2, 0, 1), call(2, 0, [2]), constant(1, -1), difference(2, 2, 1), back(2)]))]
+falling = [Function(1, 2, [branch(0, 1, 1, 2)], (0, [throw]), (0, [constant(1, 1), difference(2, 0, 1), call(2, 0, [2]), back(2)]))]
+climbing = [
+    Function(1, 2, [branch(0, 1, 1, 2)], (0, [throw]), (3, [constant(1, 1), difference(0, 0, 1), call(2, 1, [0]), back(2)]),
+             (0, [branch(1, 0, 5, 4)]), (0, [throw]), (0, [back(0)])),
+    Function(1, 2, [branch(0, 1, 1, 2)], (0, [throw]), (0, [constant(1, 1), difference(0, 0, 1), call(2, 0, [0]), back(2)]))]
+for depth in range(5):
+    for functions, end, steps, after in ((counting, "value 3", 23, 38), (falling, "uncaught", 14, 29)):
+        given = (end, steps, after) if depth >= 3 else ("deep", 4 * depth + 3, 8 * depth + 6)
+        add_run(functions, [3], depth, 100, ended(translated(*functions), *given))
+    add_run(climbing, [3], depth, 100)
+    add_run(climbing, [4], depth, 100)
+for functions, arguments in ((T, [0]), (counting, [3]), (falling, [3]), (climbing, [4]), (lost, []), (raising, [])):
+    for budget in (0, 1, most):
+        add_run(functions, arguments, 5, budget)
+for functions in (counting, falling, climbing):
+    for argument in (255, 256, 257, greatest):
+        add_run(functions, [argument], 256, most)
+
+# Handlers and frames. The exception passes all frames of a descent; it is raised in a handler's own function, with the variables of then;
+# a callee starts without its caller's handler; the caller's variables come back; frames and records given back are there again.
+passed = [
+    Function(1, 1, [goto(1)], (2, [call(1, 1, [0]), back(1)]), (0, [back(0)])),
+    Function(1, 2, [branch(0, 1, 1, 2)], (0, [throw]), (0, [constant(1, 1), difference(2, 0, 1), call(2, 1, [2]), back(2)]))]
+for argument in (0, 3, 255):
+    add_run(passed, [argument], 256, most, ended(translated(*passed), f"value {argument}", 4 * argument + 5, 8 * argument + 11))
+add_run(passed, [3], 3, most, ended(translated(*passed), "deep", 13, 26))
+later = [Function(
+    0, 2, [constant(0, 1), goto(1)], (2, [constant(0, 2), throw]), (3, [constant(1, 40), difference(0, 1, 0), throw]), (0, [back(0)]))]
+for budget in (3, 4, 7):
+    add_run(later, [], 0, budget, ended(translated(*later), "spent", budget, budget + 2))
+add_run(later, [], 0, 8, ended(translated(*later), "value 38", 8, 10))
+unguarded = [
+    Function(0, 1, [goto(1)], (2, [call(0, 1, []), back(0)]), (0, [constant(0, 5), back(0)])),
+    Function(0, 1, [throw], (2, [back(0)]), (0, [back(0)]))]
+add_run(unguarded, [], 1, 100, ended(translated(*unguarded), "value 5", 5, 9))
+kept = [Function(1, 1, [call(1, 1, [0]), difference(1, 1, 0), back(1)]), Function(1, 0, [constant(0, 9), back(0)])]
+add_run(kept, [4], 1, 100, ended(translated(*kept), "value 5", 5, 7))
+again = [Function(0, 1, [call(0, 1, []), call(0, 1, []), back(0)]), Function(0, 1, [back(0)])]
+add_run(again, [], 1, 100, ended(translated(*again), "value 0", 5, 10))
+caught = [
+    Function(0, 1, [goto(1)], (2, [call(0, 1, []), back(0)]), (3, [call(0, 1, []), back(0)]), (0, [back(0)])), Function(0, 0, [throw])]
+add_run(caught, [], 1, 100, ended(translated(*caught), "value 0", 6, 11))
+
+# Deep at 256 frames: the call that is not taken needs a step left.
+endless = [Function(0, 1, [call(0, 0, []), back(0)])]
+for budget in (257, 1000, most):
+    add_run(endless, [], 256, budget, ended(30, "deep", 256, 769))
+add_run(endless, [], 256, 256, ended(30, "spent", 256, 769))
+add_run(endless, [], 256, 255, ended(30, "spent", 255, 766))
+add_run(endless, [], 255, 256, ended(30, "deep", 255, 766))
+
+# Random procedures, each of them accepted.
+source = random.Random(20)
+values = (least, greatest, -3, -2, -1, 0, 1, 2, 3, 5)
+
+
+def random_function(counts, shapes):
+    parameters, locals_, blocks = counts
+
+    def variable():
+        return source.randrange(parameters + locals_)
+
+    def label():
+        return source.randrange(1, blocks + 1)
+
+    def operation():
+        kind = source.randrange(10)
+        if kind < 4:
+            return constant(variable(), source.choice(values))
+        if kind < 5:
+            return duplicate(variable(), variable())
+        if kind < 7:
+            return difference(variable(), variable(), variable())
+        function = source.randrange(len(shapes))
+        return call(variable(), function, [variable() for _ in range(shapes[function][0])])
+
+    # The later the block, the oftener it leaves the function.
+    def last(at):
+        if source.randrange(blocks + 1) <= at // 2:
+            return source.choice((back(variable()), back(variable()), throw))
+        kind = source.randrange(8)
+        if kind < 2:
+            return goto(label())
+        if kind < 6:
+            return branch(variable(), variable(), label(), label())
+        return throw if kind < 7 else back(variable())
+
+    def block(at):
+        return [operation() for _ in range(source.randrange(4))] + [last(at)]
+
+    handlers = [source.choice((0, label(), label())) for _ in range(blocks)]
+    return Function(parameters, locals_, block(0), *((handlers[i], block(i + 1)) for i in range(blocks)))
+
+
+made = []
+for _ in range(100):
+    shapes = [(source.randrange(4), source.randrange(1, 4), source.randrange(2, 6)) for _ in range(source.randrange(2, 5))]
+    functions = [random_function(counts, shapes) for counts in shapes]
+    arguments = [source.choice(values) for _ in range(shapes[0][0])]
+    made.append(add_run(functions, arguments, source.randrange(6), source.randrange(201)))
+
+assert len(cases) < 600
+with open("crates/both_cases/stdin", "wb") as f:
+    for data, _ in cases:
+        f.write(len(data).to_bytes(2, "little") + data)
+    # An input too long: the run ends here, and what follows gets no answer.
+    for data in (bytes(4097), header([5], 256, 100) + file):
+        f.write(len(data).to_bytes(2, "little") + data)
+with open("crates/both_cases/stdout", "w") as f:
+    f.write("".join(text for _, text in cases))
+
+
+def kind(text):
+    words = text.split()
+    return " ".join(words[:2]) if words[0] in ("refused", "no") else words[3]
+
+
+print(len(cases), "cases,", from_vectors, "from the vectors:", dict(Counter(kind(text) for _, text in cases)))
+print("random:", dict(Counter(map(kind, made))))
+for data, given, text in differences:
+    print("the peer differs:", data, "given", repr(given), "peer", repr(text))
