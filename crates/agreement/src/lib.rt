@@ -140,7 +140,8 @@ fn run_both(
     let b = bench::machine::run(file, arguments, depth, budget, frames);
     let stopped = b.stopped;
     let more = one_more_if_deep(stopped);
-    let counted = b.steps + b.extras;
+    let taken = b.steps;
+    let counted = taken + b.extras;
     let steps = counted + more;
     let c = controller::machine::run(target, arguments, depth, steps, records);
     Sides {
