@@ -201,7 +201,3 @@ module _ (s starts handlers params locals blocks : List ℕ) where
         subst (λ (v : Verdict). LoadedOr v s starts handlers params locals blocks starts′ handlers′ params′ locals′ blocks′) h
             (record { bytes = bytes; isAccepted = sym h; tables = g .tables }),
       )
-
--- An argument past the end of the file.
-pub argument-past : (s : List ℕ) (at i : ℕ) → length s ≤ at + 4 + i → 0 ≡ getD s (at + 4 + i) 0
-argument-past s at i h = sym (List·getD-eq-default s 0 h)

@@ -7,7 +7,6 @@ use procedure_names::names;
 use procedure_names::names::FunctionFound;
 ghost use mathlib.Core.Path.{_≡_};
 ghost use Prim.Native.Nat.{_+_};
-ghost use lib.ListN.{getD};
 ghost use Rattle.parsing.specs.Parser.{verdictOf};
 ghost use Rattle.procedure_file.specs.Check.{checkOf, programOf};
 ghost use Rattle.procedure_file.specs.AcceptedLaws.{Laid};
@@ -100,24 +99,6 @@ pub fn block_refusal(file: &[u8], f: u8, label: u8) -> Checked
         Place::At { from: _, to: _ } => Checked::Accepted,
         Place::Nowhere(r) => Checked::Refused(r),
     }
-}
-
-// Argument i of the call at an offset.
-pub fn argument(file: &[u8], at: usize, i: usize) -> u8
-    ensures { λ r. ⌜ r ≡ getD (now (file .entry)) (at + 4 + i) 0 ⌝ }
-{
-    let n = file.len();
-    if n <= at {
-        return 0;
-    }
-    if n - at <= i {
-        return 0;
-    }
-    let place = at + 4 + i;
-    if n <= place {
-        return 0;
-    }
-    file[place]
 }
 
 // Checks a file and, where it is accepted, fills the tables that were lent.

@@ -334,7 +334,7 @@ fn functions_end(file: &[u8], params: &[u8], names: bool, start: usize, n: usize
 }
 
 // The number of functions.
-pub fn functions_at(file: &[u8], at: usize) -> Count
+fn functions_at(file: &[u8], at: usize) -> Count
     ensures { λ r. ⌜ r ≡ functionsRead (functions (now (file .entry)) at) ⌝ }
 {
     if file.len() <= at {

@@ -1,7 +1,7 @@
 // The tables of an accepted layout, filled once: where the functions' bodies stand, and their numbers of parameters.
 use target_tags::tag;
 ghost use mathlib.Core.Path.{_≡_};
-ghost use Rattle.target_file.specs.Tables.{LaidOut, Tabled, StartsOf};
+ghost use Rattle.target_file.specs.Tables.{LaidOut, Tabled};
 
 pub struct Tables {
     pub starts: [u16; 2048],
@@ -26,13 +26,4 @@ pub fn tables_of(file: &[u8]) -> Tables
         i += 1;
     }
     Tables { starts, params }
-}
-
-// Where the functions' bodies stand.
-pub fn starts_of(file: &[u8]) -> [u16; 2048]
-    requires { ⌜ LaidOut (now file) ⌝ }
-    ensures { λ r. ⌜ StartsOf (now (file .entry)) r ⌝ }
-{
-    let tables = tables_of(file);
-    tables.starts
 }
