@@ -44,6 +44,9 @@ module _ {s starts handlers params locals : List ℕ} (L : Loaded s starts handl
   pub branch-else-safe : {y z l m n : ℕ} → operationAt s (r .at) ≡ Branch y z l m n → 64 * r .function + m < 2048
   branch-else-safe {y} {z} {l} {m} {n} e = StepLaws.label-safe s starts handlers params locals L limit r vs words H m (StepLaws.branch-label s starts handlers params locals L limit r vs words H y z l m n m false e refl)
 
+  pub branch-else-there : {y z l m n : ℕ} → operationAt s (r .at) ≡ Branch y z l m n → 1 ≤ m
+  branch-else-there {y} {z} {l} {m} {n} e = StepLaws.branch-label s starts handlers params locals L limit r vs words H y z l m n m false e refl .0
+
   pub branch-then : {y z l m n : ℕ} {c : Bool} {a b : ℤ} {q : Regs} → operationAt s (r .at) ≡ Branch y z l m n → a ≡ getD vs y (pos 0) → b ≡ getD vs z (pos 0) → c ≡ atMost a b → c ≡ true → q ≡ atLabel l (r .extras + 1) → Done s limit r vs words (Next q) vs words
   branch-then {y} {z} {l} {m} {n} {c} {a} {b} {q} e ea eb ec et eq = StepLaws.branch-done s starts handlers params locals L limit r vs words H y z l m n l true q e (sym et ∙ (ec ∙ ap₂ atMost ea eb)) refl eq
 

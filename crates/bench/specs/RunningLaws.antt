@@ -1,14 +1,16 @@
 -- The laws of the operations that use no table, from what their functions are given.
-use Prim.Native.Nat.{ℕ, _<_}
+use Prim.Native.Nat.{ℕ, _≤_, _<_}
+use native.Mathlib.Omega.{arith}
 use mathlib.Core.Path.{_≡_, sym, ap, subst, _∙_}
 use mathlib.Core.List.{List}
+use mathlib.Core.Logic.{_≢_}
 use lib.IntN.{ℤ, pos}
 use lib.ListN.{getD, set}
 use Rattle.semantics.specs.Value.{minus}
-use Rattle.procedure_layout.specs.declared.operation.Operation.the-variants.{Constant, Copy, Difference, Refused}
+use Rattle.procedure_layout.specs.declared.operation.Operation.the-variants.{Constant, Copy, Difference, Call, Goto, Return, Branch, Raise, Refused}
 use Rattle.procedure_layout.specs.declared.operation.Operation.{Operation}
-use Rattle.parsing.specs.declared.Refusal.{Refusal}
 use Rattle.procedure_layout.specs.Operation.{operationAt}
+use Rattle.procedure_layout.specs.Form.{numberOf}
 use Rattle.bench.specs.declared.step.Regs.{Regs}
 use Rattle.bench.specs.declared.step.Step.the-variants.{Next}
 use Rattle.procedure_file.specs.Facts.{Stands}
@@ -45,9 +47,35 @@ module _ {s : List ℕ} {limit : ℕ} {r : Regs} {vs words : List ℤ} (R : Runn
 pub running : {s starts handlers params locals : List ℕ} → Loaded s starts handlers params locals → Running s
 running {starts = starts} {handlers = handlers} {params = params} {locals = locals} L = record { starts = starts; handlers = handlers; params = params; locals = locals; loaded = L }
 
--- No operation is refused where the machine stands.
-pub no-refusal : {s : List ℕ} {limit : ℕ} {r : Regs} {vs words : List ℤ} {o : Operation} {e : Refusal} {A : Type 0} → Running s → Held s limit r vs words → o ≡ operationAt s (r .at) → o ≡ Refused e → A
-no-refusal {s} {r = r} R H p q = absurd (subst (λ (x : Operation). GoesOn s (r .function) x) (sym p ∙ q) (goes-on (R .loaded .facts) (H .here)))
+-- The number of the operation where the machine stands.
+pub numbered : {s : List ℕ} {limit : ℕ} {r : Regs} {vs words : List ℤ} → Running s → Held s limit r vs words → (1 ≤ numberOf (operationAt s (r .at))) × (numberOf (operationAt s (r .at)) ≤ 8)
+unfolding numberOf
+numbered {s} {r = r} R H = by (operationAt s (r .at)) (goes-on (R .loaded .facts) (H .here))
+  where
+    by : (o : Operation) → GoesOn s (r .function) o → (1 ≤ numberOf o) × (numberOf o ≤ 8)
+    by (Constant x i n) g = (omega arith, omega arith)
+    by (Copy x y n) g = (omega arith, omega arith)
+    by (Difference x y z n) g = (omega arith, omega arith)
+    by (Call x h k n) g = (omega arith, omega arith)
+    by (Goto l n) g = (omega arith, omega arith)
+    by (Return x n) g = (omega arith, omega arith)
+    by (Branch y z l m n) g = (omega arith, omega arith)
+    by (Raise n) g = (omega arith, omega arith)
+    by (Refused e) g = absurd g
+
+from-five : {n : ℕ} → n ≢ 1 → n ≢ 2 → n ≢ 3 → n ≢ 4 → 1 ≤ n → 5 ≤ n
+from-five a b c d h = omega arith
+
+from-nine : {n : ℕ} → n ≢ 5 → n ≢ 6 → n ≢ 7 → n ≢ 8 → 5 ≤ n → 9 ≤ n
+from-nine a b c d h = omega arith
+
+-- No other number is met.
+pub no-number : {n m : ℕ} {A : Type 0} → n ≢ 1 → n ≢ 2 → n ≢ 3 → n ≢ 4 → n ≢ 5 → n ≢ 6 → n ≢ 7 → n ≢ 8 → n ≡ m → (1 ≤ m) × (m ≤ 8) → A
+no-number {n} a b c d e f g h q w =
+    absurd (by (from-nine e f g h (from-five a b c d (rw q (w .0)))) (rw q (w .1)))
+  where
+    by : 9 ≤ n → n ≤ 8 → ⊥
+    by k l = omega arith
 
 -- A value that went through a word.
 pub constant-as : {o : Operation} {x n : ℕ} {i v : ℤ} → o ≡ Constant x i n → v ≡ i → o ≡ Constant x v n

@@ -171,3 +171,17 @@ module _ {s starts handlers params locals : List ℕ} (L : Loaded s starts handl
         kept = T .kept;
         long = T .long;
       }
+
+-- The same, with the steps left counted down.
+pub down-few : {b left : ℕ} → left ≤ b → 0 < left → b - left < b
+down-few h k = omega arith
+
+module _ {s : List ℕ} {limit b : ℕ} {r₀ : Regs} {vs₀ words₀ : List ℤ} {r : Regs} {vs words : List ℤ} where
+  pub down-start : Turn s limit b r₀ vs₀ words₀ 0 r vs words → Turn s limit b r₀ vs₀ words₀ (b - b) r vs words
+  down-start T = let q : 0 ≡ b - b = omega arith in subst (λ (n : ℕ). Turn s limit b r₀ vs₀ words₀ n r vs words) q T
+
+  pub down-next : {left : ℕ} → left ≤ b → 0 < left → Turn s limit b r₀ vs₀ words₀ (b - left + 1) r vs words → Turn s limit b r₀ vs₀ words₀ (b - (left - 1)) r vs words
+  down-next {left} h k T = let q : b - left + 1 ≡ b - (left - 1) = omega arith in subst (λ (n : ℕ). Turn s limit b r₀ vs₀ words₀ n r vs words) q T
+
+  pub down-spent : {left : ℕ} {starts handlers params locals : List ℕ} → Loaded s starts handlers params locals → left ≤ 0 → Turn s limit b r₀ vs₀ words₀ (b - left) r vs words → Finished s limit b r₀ vs₀ words₀ (record { stopped = S.Spent; steps = b; regs = r }) vs words
+  down-spent {left} L h T = let q : b - left ≡ b = omega arith in turn-spent L (subst (λ (n : ℕ). Turn s limit b r₀ vs₀ words₀ n r vs words) q T) (omega arith)
