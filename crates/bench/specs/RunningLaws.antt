@@ -10,7 +10,7 @@ use Rattle.semantics.specs.Value.{minus}
 use Rattle.procedure_layout.specs.declared.operation.Operation.the-variants.{Constant, Copy, Difference, Call, Goto, Return, Branch, Raise, Refused}
 use Rattle.procedure_layout.specs.declared.operation.Operation.{Operation}
 use Rattle.procedure_layout.specs.Operation.{operationAt}
-use Rattle.procedure_layout.specs.Form.{numberOf}
+use Rattle.procedure_form.specs.Form.{numberOf}
 use Rattle.bench.specs.declared.step.Regs.{Regs}
 use Rattle.bench.specs.declared.step.Step.the-variants.{Next}
 use Rattle.procedure_file.specs.Facts.{Stands}

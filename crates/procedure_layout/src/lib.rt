@@ -1,4 +1,3 @@
 // The layout of procedure files (`SPF`): the reader of operations, the ends of blocks and functions, the refusals 1 to 6.
-pub mod form;
 pub mod layout;
 pub mod operation;

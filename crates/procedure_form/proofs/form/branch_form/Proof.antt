@@ -1,0 +1,50 @@
+-- `procedure_form::form::branch_form` meets its contract.
+use native.Mathlib.Omega.{arith}
+use Rattle.procedure_form.specs.FormLaws.{branch-room, branch-form}
+use Rattle.procedure_form.proofs.form.branch_form.Statement.{statement}
+use Rattle.procedure_form.proofs.form.branch_form.Tie as tie
+
+add-y : tie.Need-add-y
+add-y c = omega (arith, branch-room (c .args .file .now) (c .args .at) (c .pre))
+
+add-z : tie.Need-add-z
+add-z c = omega (arith, branch-room (c .args .file .now) (c .args .at) (c .pre))
+
+add-l : tie.Need-add-l
+add-l c = omega (arith, branch-room (c .args .file .now) (c .args .at) (c .pre))
+
+add-m : tie.Need-add-m
+add-m c = omega (arith, branch-room (c .args .file .now) (c .args .at) (c .pre))
+
+add-next : tie.Need-add-next
+add-next c = omega (arith, branch-room (c .args .file .now) (c .args .at) (c .pre))
+
+shared-slice-read-t9 : tie.Need-shared-slice-read-t9
+shared-slice-read-t9 c = omega (arith, branch-room (c .before .args .file .now) (c .before .args .at) (c .before .pre))
+
+shared-slice-read-t11 : tie.Need-shared-slice-read-t11
+shared-slice-read-t11 c = omega (arith, branch-room (c .before .before .args .file .now) (c .before .before .args .at) (c .before .before .pre))
+
+shared-slice-read-t13 : tie.Need-shared-slice-read-t13
+shared-slice-read-t13 c = omega (arith, branch-room (c .before .before .before .args .file .now) (c .before .before .before .args .at) (c .before .before .before .pre))
+
+shared-slice-read-t15 : tie.Need-shared-slice-read-t15
+shared-slice-read-t15 c = omega (arith, branch-room (c .before .before .before .before .args .file .now) (c .before .before .before .before .args .at) (c .before .before .before .before .pre))
+
+returns : tie.Need-returns
+returns c = branch-form (c .before .before .before .before .args .file .now) (c .before .before .before .before .args .at) (c .before .before .before .before .pre)
+
+pub branch-form-spec : {M : Type 1} → statement M
+branch-form-spec =
+    tie.close
+    (tie.spec
+    add-y
+    add-z
+    add-l
+    add-m
+    add-next
+    shared-slice-read-t9
+    shared-slice-read-t11
+    shared-slice-read-t13
+    shared-slice-read-t15
+    returns)

@@ -1,0 +1,42 @@
+-- `procedure_form::form::difference_form` meets its contract.
+use native.Mathlib.Omega.{arith}
+use Rattle.procedure_form.specs.FormLaws.{difference-room, difference-form}
+use Rattle.procedure_form.proofs.form.difference_form.Statement.{statement}
+use Rattle.procedure_form.proofs.form.difference_form.Tie as tie
+
+add-x : tie.Need-add-x
+add-x c = omega (arith, difference-room (c .args .file .now) (c .args .at) (c .pre))
+
+add-y : tie.Need-add-y
+add-y c = omega (arith, difference-room (c .args .file .now) (c .args .at) (c .pre))
+
+add-z : tie.Need-add-z
+add-z c = omega (arith, difference-room (c .args .file .now) (c .args .at) (c .pre))
+
+add-next : tie.Need-add-next
+add-next c = omega (arith, difference-room (c .args .file .now) (c .args .at) (c .pre))
+
+shared-slice-read-t8 : tie.Need-shared-slice-read-t8
+shared-slice-read-t8 c = omega (arith, difference-room (c .before .args .file .now) (c .before .args .at) (c .before .pre))
+
+shared-slice-read-t10 : tie.Need-shared-slice-read-t10
+shared-slice-read-t10 c = omega (arith, difference-room (c .before .before .args .file .now) (c .before .before .args .at) (c .before .before .pre))
+
+shared-slice-read-t12 : tie.Need-shared-slice-read-t12
+shared-slice-read-t12 c = omega (arith, difference-room (c .before .before .before .args .file .now) (c .before .before .before .args .at) (c .before .before .before .pre))
+
+returns : tie.Need-returns
+returns c = difference-form (c .before .before .before .args .file .now) (c .before .before .before .args .at) (c .before .before .before .pre)
+
+pub difference-form-spec : {M : Type 1} → statement M
+difference-form-spec =
+    tie.close
+    (tie.spec
+    add-x
+    add-y
+    add-z
+    add-next
+    shared-slice-read-t8
+    shared-slice-read-t10
+    shared-slice-read-t12
+    returns)

@@ -1,0 +1,20 @@
+-- `procedure_form::form::goto_form` meets its contract.
+use native.Mathlib.Omega.{arith}
+use Rattle.procedure_form.specs.FormLaws.{goto-room, goto-form}
+use Rattle.procedure_form.proofs.form.goto_form.Statement.{statement}
+use Rattle.procedure_form.proofs.form.goto_form.Tie as tie
+
+add-l : tie.Need-add-l
+add-l c = omega (arith, goto-room (c .args .file .now) (c .args .at) (c .pre))
+
+add-next : tie.Need-add-next
+add-next c = omega (arith, goto-room (c .args .file .now) (c .args .at) (c .pre))
+
+shared-slice-read-t6 : tie.Need-shared-slice-read-t6
+shared-slice-read-t6 c = omega (arith, goto-room (c .before .args .file .now) (c .before .args .at) (c .before .pre))
+
+returns : tie.Need-returns
+returns c = goto-form (c .before .args .file .now) (c .before .args .at) (c .before .pre)
+
+pub goto-form-spec : {M : Type 1} → statement M
+goto-form-spec = tie.close (tie.spec add-l add-next shared-slice-read-t6 returns)

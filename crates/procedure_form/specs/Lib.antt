@@ -1,0 +1,3 @@
+-- Definitions: Form. Laws: FormLaws.
+pub mod Form
+pub mod FormLaws

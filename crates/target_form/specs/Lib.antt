@@ -1,0 +1,5 @@
+-- Definitions: Form, Made. Laws: FormLaws, MadeLaws.
+pub mod Form
+pub mod Made
+pub mod FormLaws
+pub mod MadeLaws
