@@ -1,7 +1,6 @@
 -- Definitions: Statement, Sides. Laws: the others.
 pub mod Statement
 pub mod Sides
-pub mod StopLaws
 pub mod Theorem
 pub mod SidesLaws
 pub mod Cases

@@ -6,13 +6,12 @@ use mathlib.Core.List.{List, _++_}
 use lib.Dec.{leb, eqb}
 use lib.IntN.{ℤ}
 use lib.ListN.{length, drop}
-use Rattle.semantics.specs.Program.{Program, functionOf}
-use Rattle.semantics.specs.Run.{Stop, deep, Result, told, oneMoreIfDeep}
+use Rattle.semantics.specs.Program.{functionOf}
+use Rattle.semantics.specs.Run.{Stop, Result, told, oneMoreIfDeep}
 use Rattle.semantics.specs.Bench.{State, bench}
 use Rattle.semantics.specs.Controller.{Control, controller}
 use Rattle.semantics.specs.Extras.{extras}
-use Rattle.semantics.specs.Matching.{holding, HoldingsMatch}
-use Rattle.semantics.specs.Statement.{SameCall}
+use Rattle.semantics.specs.Statement.{StopsMatch}
 use Rattle.parsing.specs.declared.Checked.{Checked}
 use Rattle.parsing.specs.declared.Checked.the-variants.{Accepted, Refused}
 use Rattle.parsing.specs.Parser.{Verdict, accepted, refused, orElse}
@@ -93,13 +92,6 @@ sidesTell s args depth budget frames room records =
     (benchRun s args depth budget) (extrasOf s args depth budget) (controllerRun s args depth budget)
 
 -- ── What the lent memory holds, and what is claimed of the two answers ──────────────────────────
-
--- Two runs stopped alike: with the same value, uncaught, spent or deep; in matching states, variable for variable and waiting call for
--- waiting call; deep at the same call.
-pub record StopsMatch (P : Program) (b : Stop State) (c : Stop Control) : Type 0 where
-  pub alike : told c ≡ told b
-  pub states : HoldingsMatch P (holding b) (holding c)
-  pub call : (S : State) (C : Control) → b ≡ deep S → c ≡ deep C → SameCall P S C
 
 -- Demand 3, of the answers a, the words of the frames and those of the records: the words stand for the states in which the runs
 -- stopped, the states match, and controller steps = bench steps + extras.

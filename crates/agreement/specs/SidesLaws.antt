@@ -14,6 +14,8 @@ use Rattle.semantics.specs.WellFormed.{All}
 use Rattle.semantics.specs.Run.{Stop, ended, spent, deep, broken, Result, told, oneMoreIfDeep}
 use Rattle.semantics.specs.Bench.{State}
 use Rattle.semantics.specs.Controller.{Control, controller}
+use Rattle.semantics.specs.Statement.{StopsMatch}
+use Rattle.semantics.specs.StopLaws.{Together, bench-few, extras-few}
 use Rattle.parsing.specs.declared.Refusal.{Refusal}
 use Rattle.parsing.specs.declared.Checked.{Checked}
 use Rattle.parsing.specs.declared.Checked.the-variants.{Accepted, Refused}
@@ -37,8 +39,7 @@ use Rattle.controller.specs.Published as Controller
 use Rattle.controller.specs.Published.{controllerTells}
 use Rattle.agreement.specs.declared.Sides.{Sides}
 use Rattle.agreement.specs.Statement.{Claim}
-use Rattle.agreement.specs.Sides.{unless, mainVerdict, wordsVerdict, judgedCall, sidesVerdict, Tells, refuses, tells, saidOf, sidesTold, benchRun, extrasOf, controllerBudget, controllerRun, tellsBy, sidesTell, StopsMatch, RanTogether, MemoryBy, SidesMemory}
-use Rattle.agreement.specs.StopLaws.{Together, bench-few, extras-few}
+use Rattle.agreement.specs.Sides.{unless, mainVerdict, wordsVerdict, judgedCall, sidesVerdict, Tells, refuses, tells, saidOf, sidesTold, benchRun, extrasOf, controllerBudget, controllerRun, tellsBy, sidesTell, RanTogether, MemoryBy, SidesMemory}
 use Rattle.agreement.specs.Theorem.{bench-accepts, bench-tells, controller-accepts, controller-tells, told-more, runs-together, files-agree}
 
 -- A call that is accepted, its translation made.
@@ -87,6 +88,11 @@ controller-says a x k h = by (a .verdict) refl h
 said-alike : {t t′ k k′ e e′ m m′ : ℕ} {x x′ y y′ : Stop (Unit {0})} → t ≡ t′ → x ≡ x′ → k ≡ k′ → e ≡ e′ → y ≡ y′ → m ≡ m′ → tells t x k e y m ≡ tells t′ x′ k′ e′ y′ m′
 said-alike a b c d e f = cc (a, b, c, d, e, f)
 
+locals-few : (P : Program) → All FunctionInRange P → (g : ℕ) → functionOf P g .locals ≤ 24
+locals-few [] a g = omega arith
+locals-few (F ∷ Fs) a zero = a .0 .locals
+locals-few (F ∷ Fs) a (suc g) = locals-few Fs (a .1) g
+
 -- ── Both runs ───────────────────────────────────────────────────────────────────────────────────
 
 module _ {s target : List ℕ} {args : List ℤ} {depth : ℕ} {frames records : List ℤ} (R : Ready s target args depth frames records) (budget : ℕ) where
@@ -116,7 +122,7 @@ module _ {s target : List ℕ} {args : List ℤ} {depth : ℕ} {frames records :
     pub sum-small : budget < 4294967296 → a .steps + a .extras < 9223372036854775808
     sum-small h =
         let k : b .steps ≤ budget = bench-few (programOf s) 0 args depth budget in
-        let l : x ≤ 24 + 25 * budget = extras-few (programOf s) (is-writing s (R .bytes) (R .isAccepted) .0 .inRange .functions) 0 args depth budget in
+        let l : x ≤ 24 + 25 * budget = extras-few (programOf s) 24 (locals-few (programOf s) (is-writing s (R .bytes) (R .isAccepted) .0 .inRange .functions)) 0 args depth budget in
         let p : a .steps ≡ b .steps = said-so .steps in
         let q : a .extras ≡ x = said-so .extras in
         omega arith

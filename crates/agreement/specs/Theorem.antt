@@ -18,6 +18,7 @@ use Rattle.semantics.specs.ListLaws.{at-below, getD-at}
 use Rattle.semantics.specs.TranslationLaws.{entry-at}
 use Rattle.semantics.specs.Theorem.{demand3, bench-is-sound}
 use Rattle.semantics.specs.SlotStateLaws.{controller-is-sound}
+use Rattle.semantics.specs.StopLaws.{Together, together, bench-again, controller-left}
 use Rattle.parsing.specs.Parser.{Verdict, accepted, orElse}
 use Rattle.parsing.specs.Bytes.{Bytes}
 use Rattle.memory.specs.Call.{callVerdict}
@@ -35,7 +36,6 @@ use Rattle.bench.specs.Published as Bench
 use Rattle.controller.specs.Published.{controllerVerdict, controllerTells}
 use Rattle.controller.specs.Published as Controller
 use Rattle.agreement.specs.Statement.{AnswersAgree, Claim, FilesAgree}
-use Rattle.agreement.specs.StopLaws.{Together, together, bench-again, controller-left}
 
 -- The ranges of a procedure, as the crate of translated files has them.
 block-fits : (b : Block) → ValuesFit b → BlockFits b

@@ -3,15 +3,18 @@ use Prim.Native.Nat.{ℕ, zero, suc, _+_, _*_, _-_, _≤_, _<_}
 use native.Mathlib.Omega.{arith}
 use native.Mathlib.Nat.{add-assoc, add-zero}
 use mathlib.Core.Path.{_≡_, refl, sym, ap, _∙_, subst}
-use mathlib.Core.List.{List, [], _∷_}
+use mathlib.Core.Bool.{Bool, true, false}
+use mathlib.Core.List.{List}
 use lib.IntN.{ℤ}
-use lib.ListN.{length, drop}
-use Rattle.semantics.specs.Program.{Block, constant, copy, difference, call, goto, return, branch, raise, functionOf}
+use lib.Dec.{ltb}
+use lib.ListN.{length, drop, List·getD-eq-default}
+use borrow.Author.Tests.{ltb-true, ltb-false}
+use Rattle.semantics.specs.Program.{Function, noFunction}
 use Rattle.semantics.specs.Run.{End, value, uncaught, Outcome, next, end, tooDeep, stuck, Stop, ended, spent, deep, Result, after, taken, added, run, total}
-use Rattle.semantics.specs.Bench.{Frame, frame, State, state, step}
-use Rattle.semantics.specs.WellFormed.{WellFormedState}
-use Rattle.semantics.specs.Extras.{caught, caughtOutside, extra}
+use Rattle.semantics.specs.Bench.{State, step}
+use Rattle.semantics.specs.Extras.{extra}
 use Rattle.semantics.specs.RunLaws.{after-zero, after-after}
+use Rattle.semantics.specs.StopLaws.{extra-few}
 use Rattle.procedure_file.specs.Check.{programOf}
 use Rattle.bench.specs.declared.step.Regs.{Regs}
 use Rattle.bench.specs.declared.step.Step.{Step}
@@ -23,25 +26,17 @@ use Rattle.bench.specs.FileFacts.{functionAt, Loaded}
 use Rattle.bench.specs.Machine.{stateOf, Held, Done}
 use Rattle.bench.specs.Finished.{Finished}
 
-caught-small : (fs : List Frame) → caught fs ≤ 1
-caught-small [] = omega arith
-caught-small (frame f zero b vs x ∷ fs) = caught-small fs
-caught-small (frame f (suc l) b vs x ∷ fs) = omega arith
-
-outside-small : (h : ℕ) (fs : List Frame) → caughtOutside h fs ≤ 1
-outside-small zero fs = caught-small fs
-outside-small (suc h) fs = omega arith
+-- No function has more than 24 locals; one that is not there has none.
+locals-few : {s starts handlers params locals : List ℕ} → Loaded s starts handlers params locals → (g : ℕ) → functionAt s g .locals ≤ 24
+locals-few {s} L g = by (ltb g (length (programOf s))) refl
+  where
+    by : (c : Bool) → ltb g (length (programOf s)) ≡ c → functionAt s g .locals ≤ 24
+    by true e = L .localsFew g (ltb-true g (length (programOf s)) e)
+    by false e = subst (λ (F : Function). F .locals ≤ 24) (sym (List·getD-eq-default (programOf s) noFunction (ltb-false g (length (programOf s)) e))) (omega arith)
 
 -- A step has at most 25 extras.
-extra-small : {s starts handlers params locals : List ℕ} → Loaded s starts handlers params locals → (S : State) → WellFormedState (programOf s) S → extra (programOf s) S ≤ 25
-extra-small L (state f h (constant x i b) vs fs) w = omega arith
-extra-small L (state f h (copy x y b) vs fs) w = omega arith
-extra-small L (state f h (difference x y z b) vs fs) w = omega arith
-extra-small {s} L (state f h (call x g ys b) vs fs) w = let l : functionAt s g .locals ≤ 24 = L .localsFew g (w .0 .block .1) in omega arith
-extra-small L (state f h (goto l) vs fs) w = omega arith
-extra-small L (state f h (return x) vs fs) w = omega arith
-extra-small L (state f h (branch y z l m) vs fs) w = omega arith
-extra-small L (state f h raise vs fs) w = let l : caughtOutside h fs ≤ 1 = outside-small h fs in omega arith
+extra-small : {s starts handlers params locals : List ℕ} → Loaded s starts handlers params locals → (S : State) → extra (programOf s) S ≤ 25
+extra-small {s} L S = extra-few (programOf s) 24 (locals-few L) S
 
 -- After n steps of a run with budget b that began at r₀, vs₀, words₀.
 pub record Turn (s : List ℕ) (limit b : ℕ) (r₀ : Regs) (vs₀ words₀ : List ℤ) (n : ℕ) (r : Regs) (vs words : List ℤ) : Type 0 where
@@ -86,7 +81,7 @@ module _ {s starts handlers params locals : List ℕ} (L : Loaded s starts handl
 
     pub turn-next : {q : Regs} {vs′ words′ : List ℤ} → Done s limit r vs words (Next q) vs′ words′ → Turn s limit b r₀ vs₀ words₀ (n + 1) q vs′ words′
     turn-next {q} {vs′} {words′} D =
-        let e : extra (programOf s) now ≤ 25 = extra-small L now (T .held .good) in
+        let e : extra (programOf s) now ≤ 25 = extra-small L now in
         let m : r .extras ≤ r₀ .extras + 25 * n = T .small in
         let x : q .extras ≡ r .extras + extra (programOf s) now = D .held .1 in
         record {

@@ -5,3 +5,4 @@ pub mod Call
 pub mod LayLaws
 pub mod FrameLaws
 pub mod CallLaws
+pub mod GatherLaws

@@ -23,6 +23,7 @@ pub mod SlotLaws
 pub mod Follow
 pub mod FollowCall
 pub mod Theorem
+pub mod StopLaws
 pub mod SlotStateLaws
 pub mod TranslationRules
 pub mod Cases

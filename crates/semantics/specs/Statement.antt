@@ -7,7 +7,7 @@ use mathlib.Core.List.{List}
 use lib.IntN.{ℤ}
 use lib.ListN.{length}
 use Rattle.semantics.specs.Program.{FunctionNumber, Block, constant, copy, difference, call, goto, return, branch, raise, Program, variables, functionOf}
-use Rattle.semantics.specs.Run.{End, Stop, ended, spent, deep, broken, Result}
+use Rattle.semantics.specs.Run.{End, Stop, ended, spent, deep, broken, Result, told}
 use Rattle.semantics.specs.Bench.{State, state, bench}
 use Rattle.semantics.specs.WellFormed.{All, WellFormed}
 use Rattle.semantics.specs.Code.{Expr, letConstant, letSlot, letDifference, jump, resume, handle, ifAtMost, letContinuation, letBoth, Code}
@@ -61,6 +61,13 @@ IsSpent (broken s) = ⊥
 
 abbrev pub Forever : {S : Type 0} → (ℕ → Result S) → Type 0
 Forever R = (n : ℕ) → IsSpent (R n .stop)
+
+-- Two runs stopped alike: with the same value, uncaught, spent or deep; in matching states, variable for variable and waiting call for
+-- waiting call; deep at the same call.
+pub record StopsMatch (P : Program) (b : Stop State) (c : Stop Control) : Type 0 where
+  pub alike : told c ≡ told b
+  pub states : HoldingsMatch P (holding b) (holding c)
+  pub call : (S : State) (C : Control) → b ≡ deep S → c ≡ deep C → SameCall P S C
 
 -- Bench runs B with extras X, and controller runs C, each by budget. `B n .steps + X n` is bench steps + extras.
 pub record Agree (P : Program) (B : ℕ → Result State) (X : ℕ → ℕ) (C : ℕ → Result Control) : Type 0 where

@@ -51,7 +51,7 @@ loop-again : tie.Need-loop-again Inv-loop μ-loop
 loop-again c = passed-more (c .before .before .before .before .loop .inv) (c .before .before .before .loop-test .taken) (c .before .byte-number .ensures .0) (toZ-ofZ {w = w32} (record { sfits = c .vars .given }))
 
 same-length : tie.Need-same-length Inv-loop μ-loop
-same-length c = c .before .loop .inv .long
+same-length c = c .before .loop .inv .gathered .long
 
 returns : tie.Need-returns Inv-loop μ-loop
 returns c = passed-all (c .before .loop .inv) (omega arith)

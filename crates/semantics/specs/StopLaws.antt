@@ -1,22 +1,19 @@
--- How the two runs stop: from what the rules agree on at every budget to the two runs of one call.
+-- How a run stops, how many steps and extras it has; and the two runs of one call, from what the rules agree on at every budget.
 use Prim.Native.Nat.{ℕ, zero, suc, _+_, _*_, _≤_, _<_}
 use native.Mathlib.Omega.{arith}
 use native.Mathlib.Nat.{add-zero}
 use mathlib.Core.Path.{_≡_, refl, sym, ap, _∙_, subst}
 use mathlib.Core.List.{List, [], _∷_}
 use lib.IntN.{ℤ}
-use Rattle.semantics.specs.Program.{constant, copy, difference, call, goto, return, branch, raise, Function, Program, functionOf}
+use Rattle.semantics.specs.Program.{constant, copy, difference, call, goto, return, branch, raise, Program, functionOf}
 use Rattle.semantics.specs.Run.{End, Outcome, next, end, tooDeep, stuck, Stop, ended, spent, deep, broken, Result, told, oneMoreIfDeep, after, added, run, total}
 use Rattle.semantics.specs.Bench.{Frame, frame, State, state, begun, step, bench}
-use Rattle.semantics.specs.WellFormed.{All}
 use Rattle.semantics.specs.Controller.{Control, doing, started, controlStep, controller}
 use Rattle.semantics.specs.Code.{Code}
 use Rattle.semantics.specs.Extras.{caught, caughtOutside, extra, extras}
 use Rattle.semantics.specs.Matching.{over, going, holding, HoldingsMatch}
-use Rattle.semantics.specs.Statement.{SameCall, IsDeep, IsBroken, Agree}
+use Rattle.semantics.specs.Statement.{SameCall, IsDeep, IsBroken, StopsMatch, Agree}
 use Rattle.semantics.specs.RunLaws.{IsLast, last, Goes, Ran, ran-spent, ran-last, ran, run-spent, run-last, run-deep}
-use Rattle.procedure_names.specs.Writing.{FunctionInRange}
-use Rattle.agreement.specs.Sides.{StopsMatch}
 
 -- ── A run takes no more steps than its budget, fewer where it stops deep, and stops deep with one more than its steps ────
 
@@ -88,27 +85,22 @@ outside-few : (h : ℕ) (fs : List Frame) → caughtOutside h fs ≤ 1
 outside-few zero fs = caught-few fs
 outside-few (suc h) fs = omega arith
 
-locals-few : (P : Program) → All FunctionInRange P → (g : ℕ) → functionOf P g .locals ≤ 24
-locals-few [] a g = omega arith
-locals-few (F ∷ Fs) a zero = a .0 .locals
-locals-few (F ∷ Fs) a (suc g) = locals-few Fs (a .1) g
-
-module _ (P : Program) (a : All FunctionInRange P) where
-  extra-few : (S : State) → extra P S ≤ 25
+module _ (P : Program) (m : ℕ) (few : (g : ℕ) → functionOf P g .locals ≤ m) where
+  pub extra-few : (S : State) → extra P S ≤ suc m
   extra-few (state f h (constant x i b) vs fs) = omega arith
   extra-few (state f h (copy x y b) vs fs) = omega arith
   extra-few (state f h (difference x y z b) vs fs) = omega arith
-  extra-few (state f h (call x g ys b) vs fs) = let l : functionOf P g .locals ≤ 24 = locals-few P a g in omega arith
+  extra-few (state f h (call x g ys b) vs fs) = let l : functionOf P g .locals ≤ m = few g in omega arith
   extra-few (state f h (goto l) vs fs) = omega arith
   extra-few (state f h (return x) vs fs) = omega arith
   extra-few (state f h (branch y z l m) vs fs) = omega arith
   extra-few (state f h raise vs fs) = let l : caughtOutside h fs ≤ 1 = outside-few h fs in omega arith
 
-  pub extras-few : (f : ℕ) (args : List ℤ) (d n : ℕ) → extras P f args d n ≤ 24 + 25 * n
+  pub extras-few : (f : ℕ) (args : List ℤ) (d n : ℕ) → extras P f args d n ≤ m + suc m * n
   unfolding extras
   extras-few f args d n =
-      let l : functionOf P f .locals ≤ 24 = locals-few P a f in
-      let t : total (step P d) (extra P) n (begun f (functionOf P f) args []) ≤ 25 * n = total-few (step P d) (extra P) 25 extra-few n (begun f (functionOf P f) args []) in
+      let l : functionOf P f .locals ≤ m = few f in
+      let t : total (step P d) (extra P) n (begun f (functionOf P f) args []) ≤ suc m * n = total-few (step P d) (extra P) (suc m) extra-few n (begun f (functionOf P f) args []) in
       omega arith
 
 pub bench-few : (P : Program) (f : ℕ) (args : List ℤ) (d n : ℕ) → bench P f args d n .steps ≤ n
