@@ -19,25 +19,40 @@ enum-known-r : tie.Need-enum-known-r
 enum-known-r c = search needs
 
 returns : tie.Need-returns
-returns c = judged-refused (c .before .before .before .before .before .args .file .now) (c .before .before .before .before .before .args .given) (c .before .before .before .before .before .args .depth) (c .before .before .before .before .before .args .frames) (c .before .before .before .before .before .args .records) (c .before .before .before .main-checked .ensures) (c .before .r .given .1)
+returns c =
+    let at-main-checked = c .before .before .before in
+    let entry = at-main-checked .before .before in
+    judged-refused (entry .args .file .now) (entry .args .given) (entry .args .depth) (entry .args .frames) (entry .args .records) (at-main-checked .main-checked .ensures) (c .before .r .given .1)
 
 enum-told : tie.Need-enum-told
 enum-told c = search needs
 
 translation-fits-requires : tie.Need-translation-fits-requires
-translation-fits-requires c κs = main-accepted (c .before .before .before .before .args .file .now) (c .before .before .before .before .args .given) (main-passed (c .before .before .before .before .args .file .now) (c .before .before .before .before .args .given) (c .before .before .before .before .args .depth) (c .before .before .before .before .args .frames) (c .before .before .before .before .args .records) (c .before .before .main-checked .ensures) (c .enum-told .given .1)) .0
+translation-fits-requires c κs =
+    let entry = c .before .before .before .before in
+    main-accepted (entry .args .file .now) (entry .args .given) (main-passed (entry .args .file .now) (entry .args .given) (entry .args .depth) (entry .args .frames) (entry .args .records) (c .before .before .main-checked .ensures) (c .enum-told .given .1)) .0
 
 words-judged-requires : tie.Need-words-judged-requires
 words-judged-requires c κs = search needs
 
 returns-2 : tie.Need-returns-2
-returns-2 c = judged-words (c .before .before .before .before .before .before .before .args .file .now) (c .before .before .before .before .before .before .before .args .given) (c .before .before .before .before .before .before .before .args .depth) (c .before .before .before .before .before .before .before .args .frames) (c .before .before .before .before .before .before .before .args .records) (c .before .before .before .before .before .main-checked .ensures) (c .before .before .before .enum-told .given .1) (sym (c .before .before .translation-fits .ensures) ∙ c .before .if1 .taken) (c .words-judged .ensures)
+returns-2 c =
+    let at-before = c .before .before in
+    let at-enum-told = at-before .before in
+    let at-main-checked = at-enum-told .before .before in
+    let entry = at-main-checked .before .before in
+    judged-words (entry .args .file .now) (entry .args .given) (entry .args .depth) (entry .args .frames) (entry .args .records) (at-main-checked .main-checked .ensures) (at-enum-told .enum-told .given .1) (sym (at-before .translation-fits .ensures) ∙ c .before .if1 .taken) (c .words-judged .ensures)
 
 turned-down-requires : tie.Need-turned-down-requires
 turned-down-requires c κs = search needs
 
 returns-3 : tie.Need-returns-3
-returns-3 c = ap verdictOf (c .turned-down .ensures) ∙ judged-17 (c .before .before .before .before .before .before .before .args .file .now) (c .before .before .before .before .before .before .before .args .given) (c .before .before .before .before .before .before .before .args .depth) (c .before .before .before .before .before .before .before .args .frames) (c .before .before .before .before .before .before .before .args .records) (c .before .before .before .before .before .main-checked .ensures) (c .before .before .before .enum-told .given .1) (sym (c .before .before .translation-fits .ensures) ∙ c .before .if1 .left)
+returns-3 c =
+    let at-before = c .before .before in
+    let at-enum-told = at-before .before in
+    let at-main-checked = at-enum-told .before .before in
+    let entry = at-main-checked .before .before in
+    ap verdictOf (c .turned-down .ensures) ∙ judged-17 (entry .args .file .now) (entry .args .given) (entry .args .depth) (entry .args .frames) (entry .args .records) (at-main-checked .main-checked .ensures) (at-enum-told .enum-told .given .1) (sym (at-before .translation-fits .ensures) ∙ c .before .if1 .left)
 
 pub call-judged-spec : {M : Type 1} → statement M
 call-judged-spec =

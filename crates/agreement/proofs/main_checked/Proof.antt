@@ -11,6 +11,10 @@ use Rattle.agreement.proofs.main_checked.Lts as lts
 use Rattle.agreement.proofs.turned_down.Reads as turned-down-reads
 use Rattle.procedure_file.proofs.lookup.load.Reads as load-reads
 
+-- Ways back to earlier places that several answers take.
+abbrev entry-before-load : tie.After-load → tie.Start
+entry-before-load c = c .before .before .before .before .before .before .before
+
 load-requires : tie.Need-load-requires
 load-requires c κs = search needs
 
@@ -18,7 +22,10 @@ enum-known-r : tie.Need-enum-known-r
 enum-known-r c = search needs
 
 returns : tie.Need-returns
-returns c = main-refused (c .before .before .before .before .before .before .before .before .before .before .args .file .now) (c .before .before .before .before .before .before .before .before .before .before .args .given) (c .before .before .before .load .ensures .0) (c .before .r .given .1)
+returns c =
+    let at-load = c .before .before .before in
+    let entry = entry-before-load at-load in
+    main-refused (entry .args .file .now) (entry .args .given) (at-load .load .ensures .0) (c .before .r .given .1)
 
 enum-told : tie.Need-enum-told
 enum-told c = search needs
@@ -27,16 +34,25 @@ array-read-wanted : tie.Need-array-read-wanted
 array-read-wanted c = search needs
 
 cast-wanted : tie.Need-cast-wanted
-cast-wanted c = omega (arith, parameters-few (c .before .before .before .before .before .before .before .before .before .args .file .now) (c .before .before .before .before .before .before .before .before .before .args .given) (c .before .before .load .ensures .0) (c .enum-told .given .1) _ _ _ _ _ _ _ _ _ _ (c .before .before .load .ensures .1))
+cast-wanted c =
+    let at-load = c .before .before in
+    let entry = entry-before-load at-load in
+    omega (arith, parameters-few (entry .args .file .now) (entry .args .given) (at-load .load .ensures .0) (c .enum-told .given .1) _ _ _ _ _ _ _ _ _ _ (at-load .load .ensures .1))
 
 turned-down-requires : tie.Need-turned-down-requires
 turned-down-requires c κs = search needs
 
 returns-2 : tie.Need-returns-2
-returns-2 c = ap verdictOf (c .turned-down .ensures) ∙ main-14 (c .before .before .before .before .before .before .before .before .before .before .before .args .file .now) (c .before .before .before .before .before .before .before .before .before .before .before .args .given) (c .before .before .before .before .load .ensures .0) (c .before .before .enum-told .given .1) _ _ _ _ _ _ _ _ _ _ (c .before .before .before .before .load .ensures .1) refl (c .before .if1 .taken)
+returns-2 c =
+    let at-load = c .before .before .before .before in
+    let entry = entry-before-load at-load in
+    ap verdictOf (c .turned-down .ensures) ∙ main-14 (entry .args .file .now) (entry .args .given) (at-load .load .ensures .0) (c .before .before .enum-told .given .1) _ _ _ _ _ _ _ _ _ _ (at-load .load .ensures .1) refl (c .before .if1 .taken)
 
 returns-3 : tie.Need-returns-3
-returns-3 c = main-fits (c .before .before .before .before .before .before .before .before .before .before .args .file .now) (c .before .before .before .before .before .before .before .before .before .before .args .given) (c .before .before .before .load .ensures .0) (c .before .enum-told .given .1) _ _ _ _ _ _ _ _ _ _ (c .before .before .before .load .ensures .1) refl (c .if1 .left)
+returns-3 c =
+    let at-load = c .before .before .before in
+    let entry = entry-before-load at-load in
+    main-fits (entry .args .file .now) (entry .args .given) (at-load .load .ensures .0) (c .before .enum-told .given .1) _ _ _ _ _ _ _ _ _ _ (at-load .load .ensures .1) refl (c .if1 .left)
 
 pub main-checked-spec : {M : Type 1} → statement M
 main-checked-spec =

@@ -11,6 +11,13 @@ use Rattle.agreement.proofs.one_more_if_deep.Reads as one-more-if-deep-
 use Rattle.bench.proofs.machine.run.Reads as machine-run-reads
 use Rattle.controller.proofs.machine.run.Reads as machine-run-reads′
 
+-- Ways back to earlier places that several answers take.
+abbrev entry-before-run : tie.After-run → tie.Start
+entry-before-run c = c .before .before .before .before
+
+abbrev run-before-struct-known : tie.After-struct-known → tie.After-run
+run-before-struct-known c = c .before .before .before
+
 run-requires : tie.Need-run-requires
 run-requires c κs = search needs
 
@@ -18,10 +25,16 @@ one-more-if-deep-requires : tie.Need-one-more-if-deep-requires
 one-more-if-deep-requires c κs = search needs
 
 add-counted : tie.Need-add-counted
-add-counted c = omega (arith, sum-small (c .before .before .before .before .before .before .before .pre) (c .before .before .before .before .before .before .before .args .budget) (c .before .before .before .run .result) (c .before .before .before .run .ensures .0) (c .before .before .before .before .before .before .before .fits .budget .fits))
+add-counted c =
+    let at-run = run-before-struct-known c in
+    let entry = entry-before-run at-run in
+    omega (arith, sum-small (entry .pre) (entry .args .budget) (at-run .run .result) (at-run .run .ensures .0) (entry .fits .budget .fits))
 
 add-steps : tie.Need-add-steps
-add-steps c = omega (arith, sum-small (c .before .before .before .before .before .before .before .pre) (c .before .before .before .before .before .before .before .args .budget) (c .before .before .before .run .result) (c .before .before .before .run .ensures .0) (c .before .before .before .before .before .before .before .fits .budget .fits), more-small (c .before .before .before .before .before .before .before .pre) (c .before .before .before .before .before .before .before .args .budget) (c .before .before .before .run .result) (c .before .before .before .run .ensures .0) (c .before .one-more-if-deep .ensures))
+add-steps c =
+    let at-run = run-before-struct-known c in
+    let entry = entry-before-run at-run in
+    omega (arith, sum-small (entry .pre) (entry .args .budget) (at-run .run .result) (at-run .run .ensures .0) (entry .fits .budget .fits), more-small (entry .pre) (entry .args .budget) (at-run .run .result) (at-run .run .ensures .0) (c .before .one-more-if-deep .ensures))
 
 run-requires-2 : tie.Need-run-requires-2
 run-requires-2 c κs = search needs
@@ -33,7 +46,12 @@ same-length-2 : tie.Need-same-length-2
 same-length-2 c = search needs
 
 returns : tie.Need-returns
-returns c = both-ran (c .before .before .before .before .before .before .before .before .before .before .pre) (c .before .before .before .before .before .before .before .before .before .before .args .budget) (c .before .before .before .before .before .before .run .result) (c .before .before .before .before .before .before .run .ensures .0) (c .before .before .before .before .one-more-if-deep .ensures) (c .before .run2 .result) _ _ refl (c .before .run2 .ensures .0) (c .before .before .before .before .before .before .run .ensures .1) (c .before .run2 .ensures .1)
+returns c =
+    let at-run2 = c .before in
+    let at-one-more-if-deep = at-run2 .before .before .before in
+    let at-run = at-one-more-if-deep .before .before in
+    let entry = entry-before-run at-run in
+    both-ran (entry .pre) (entry .args .budget) (at-run .run .result) (at-run .run .ensures .0) (at-one-more-if-deep .one-more-if-deep .ensures) (at-run2 .run2 .result) _ _ refl (at-run2 .run2 .ensures .0) (at-run .run .ensures .1) (at-run2 .run2 .ensures .1)
 
 pub run-both-spec : {M : Type 1} → statement M
 run-both-spec =

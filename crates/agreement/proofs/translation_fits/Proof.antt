@@ -8,6 +8,13 @@ use Rattle.agreement.proofs.translation_fits.Reads as reads
 use Rattle.agreement.proofs.translation_fits.Lts as lts
 use Rattle.translator.proofs.translate.Reads as translate-reads
 
+-- Ways back to earlier places that several answers take.
+abbrev entry-before-translate : tie.After-translate → tie.Start
+entry-before-translate c = c .before .before .before
+
+abbrev translate-before-r : tie.After-r → tie.After-translate
+translate-before-r c = c .before .before .before
+
 slice-aggregate-translate : tie.Need-slice-aggregate-translate
 slice-aggregate-translate c = search needs
 
@@ -21,13 +28,24 @@ enum-known-r : tie.Need-enum-known-r
 enum-known-r c = search needs
 
 returns : tie.Need-returns
-returns c = sym (too-long (c .before .before .before .before .before .before .before .before .before .args .file .now) (c .before .before .before .before .before .before .before .before .before .pre) _ _ (c .before .before .before .before .before .before .translate .ensures .0) (c .before .before .before .r .given .1) (c .if1 .taken))
+returns c =
+    let at-r = c .before .before .before in
+    let at-translate = translate-before-r at-r in
+    let entry = entry-before-translate at-translate in
+    sym (too-long (entry .args .file .now) (entry .pre) _ _ (at-translate .translate .ensures .0) (at-r .r .given .1) (c .if1 .taken))
 
 returns-2 : tie.Need-returns-2
-returns-2 c = sym (size-fits (c .before .before .before .before .before .before .args .file .now) (c .before .before .before .before .before .before .pre) _ _ (c .before .before .before .translate .ensures .0) (c .enum-told .given .1) .small)
+returns-2 c =
+    let at-translate = c .before .before .before in
+    let entry = entry-before-translate at-translate in
+    sym (size-fits (entry .args .file .now) (entry .pre) _ _ (at-translate .translate .ensures .0) (c .enum-told .given .1) .small)
 
 returns-3 : tie.Need-returns-3
-returns-3 c = sym (room-short (c .before .before .before .before .before .before .before .before .before .args .file .now) (c .before .before .before .before .before .before .before .before .before .pre) _ _ (c .before .before .before .before .before .before .translate .ensures .0) (c .before .before .before .r .given .1) (c .if1 .left) .small)
+returns-3 c =
+    let at-r = c .before .before .before in
+    let at-translate = translate-before-r at-r in
+    let entry = entry-before-translate at-translate in
+    sym (room-short (entry .args .file .now) (entry .pre) _ _ (at-translate .translate .ensures .0) (at-r .r .given .1) (c .if1 .left) .small)
 
 pub translation-fits-spec : {M : Type 1} → statement M
 translation-fits-spec =

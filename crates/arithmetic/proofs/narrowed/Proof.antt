@@ -13,19 +13,29 @@ returns : tie.Need-returns
 returns c = below-narrowed (c .before .args .d) (c .before .pre) (c .if1 .taken) .same
 
 sub-result : tie.Need-sub-result
-sub-result c = above-narrowed (c .before .before .args .d) (c .before .before .pre) (c .if2 .taken) .wide
+sub-result c =
+    let entry = c .before .before in
+    above-narrowed (entry .args .d) (entry .pre) (c .if2 .taken) .wide
 
 cast-result-2 : tie.Need-cast-result-2
-cast-result-2 c = above-narrowed (c .before .before .args .d) (c .before .before .pre) (c .if2 .taken) .narrow
+cast-result-2 c =
+    let entry = c .before .before in
+    above-narrowed (entry .args .d) (entry .pre) (c .if2 .taken) .narrow
 
 returns-2 : tie.Need-returns-2
-returns-2 c = above-narrowed (c .before .before .args .d) (c .before .before .pre) (c .if2 .taken) .same
+returns-2 c =
+    let entry = c .before .before in
+    above-narrowed (entry .args .d) (entry .pre) (c .if2 .taken) .same
 
 cast-result-3 : tie.Need-cast-result-3
-cast-result-3 c = within-narrowed (c .before .before .args .d) (c .before .before .pre) (c .before .if1 .left) (c .if2 .left) .narrow
+cast-result-3 c =
+    let entry = c .before .before in
+    within-narrowed (entry .args .d) (entry .pre) (c .before .if1 .left) (c .if2 .left) .narrow
 
 returns-3 : tie.Need-returns-3
-returns-3 c = within-narrowed (c .before .before .args .d) (c .before .before .pre) (c .before .if1 .left) (c .if2 .left) .same
+returns-3 c =
+    let entry = c .before .before in
+    within-narrowed (entry .args .d) (entry .pre) (c .before .if1 .left) (c .if2 .left) .same
 
 pub narrowed-spec : {M : Type 1} → statement M
 narrowed-spec =

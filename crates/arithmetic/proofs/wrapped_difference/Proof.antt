@@ -21,8 +21,9 @@ narrowed-requires c κs = handed-small (c .args .y) (c .args .z) (c .fits .y) (c
 returns : tie.Need-returns
 unfolding minus
 returns c =
+    let entry = c .before in
     toZ-ofZ (record { sfits = c .narrowed .ok })
-    ∙ (c .narrowed .ensures ∙ ap wrapped (handed (c .before .args .y) (c .before .args .z) (c .before .fits .y) (c .before .fits .z)))
+    ∙ (c .narrowed .ensures ∙ ap wrapped (handed (entry .args .y) (entry .args .z) (entry .fits .y) (entry .fits .z)))
 
 pub wrapped-difference-spec : {M : Type 1} → statement M
 wrapped-difference-spec =

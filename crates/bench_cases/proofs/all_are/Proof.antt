@@ -13,31 +13,24 @@ Inv-loop words a e x same₀ i₀ same i = Unit
 abbrev μ-loop : tie.MeasureT-loop
 μ-loop words a e x same₀ i₀ same i = length words - i
 
--- src/main.rt:54:5
 loop-holds : tie.Need-loop-holds Inv-loop μ-loop
 loop-holds c = search needs
 
--- src/main.rt:57:20
 mul-if3 : tie.Need-mul-if3 Inv-loop μ-loop
 mul-if3 c = search needs
 
--- src/main.rt:57:20
 shared-slice-copy-out-if3 : tie.Need-shared-slice-copy-out-if3 Inv-loop μ-loop
 shared-slice-copy-out-if3 c = search needs
 
--- src/main.rt:62:9
 add-i : tie.Need-add-i Inv-loop μ-loop
 add-i c = search needs
 
--- src/main.rt:54:5
 loop-less : tie.Need-loop-less Inv-loop μ-loop
 loop-less c = search needs
 
--- src/main.rt:54:5
 loop-again : tie.Need-loop-again Inv-loop μ-loop
 loop-again c = search needs
 
--- src/main.rt:51:1
 returns : tie.Need-returns Inv-loop μ-loop
 returns c = search needs
 

@@ -14,35 +14,27 @@ Inv-loop words waiting i₀ i = Unit
 abbrev μ-loop : tie.MeasureT-loop
 μ-loop words waiting i₀ i = length words - i
 
--- src/main.rt:70:5
 loop-holds : tie.Need-loop-holds Inv-loop μ-loop
 loop-holds c = search needs
 
--- src/main.rt:73:29
 mul-print-value : tie.Need-mul-print-value Inv-loop μ-loop
 mul-print-value c = search needs
 
--- src/main.rt:73:29
 shared-slice-copy-out-print-value : tie.Need-shared-slice-copy-out-print-value Inv-loop μ-loop
 shared-slice-copy-out-print-value c = search needs
 
--- src/main.rt:73:17
 print-value-requires : tie.Need-print-value-requires Inv-loop μ-loop
 print-value-requires c κs = search needs
 
--- src/main.rt:76:9
 add-i : tie.Need-add-i Inv-loop μ-loop
 add-i c = search needs
 
--- src/main.rt:70:5
 loop-less : tie.Need-loop-less Inv-loop μ-loop
 loop-less c = search needs
 
--- src/main.rt:70:5
 loop-again : tie.Need-loop-again Inv-loop μ-loop
 loop-again c = search needs
 
--- src/main.rt:68:1
 returns : tie.Need-returns Inv-loop μ-loop
 returns c = search needs
 

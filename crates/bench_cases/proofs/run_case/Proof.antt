@@ -10,127 +10,96 @@ use Rattle.bench_cases.proofs.run_on.Reads as run-on-reads
 use Rattle.bench_cases.proofs.say.Reads as say-reads
 use Rattle.bench_cases.proofs.word.Reads as word-reads
 
--- src/main.rt:193:9
 returns : tie.Need-returns
 returns c = search needs
 
--- src/main.rt:195:13
 shared-slice-read-n : tie.Need-shared-slice-read-n
 shared-slice-read-n c = search needs
 
--- src/main.rt:195:13
 cast-n : tie.Need-cast-n
 cast-n c = omega (arith, c .shared-slice-known2 .given 0)
 
--- src/main.rt:196:20
 mul-head : tie.Need-mul-head
 mul-head c = omega (arith, c .shared-slice-known2 .given 0)
 
--- src/main.rt:196:16
 add-head : tie.Need-add-head
 add-head c = omega (arith, c .shared-slice-known2 .given 0)
 
--- src/main.rt:197:22
 add-if2 : tie.Need-add-if2
 add-if2 c = omega (arith, c .shared-slice-known2 .given 0)
 
--- src/main.rt:198:13
 slice-aggregate-say : tie.Need-slice-aggregate-say
 slice-aggregate-say c = search needs
 
--- src/main.rt:198:9
 say-requires : tie.Need-say-requires
 say-requires c κs = search needs
 
--- src/main.rt:199:9
 returns-2 : tie.Need-returns-2
 returns-2 c = search needs
 
--- src/main.rt:202:22
 shared-slice-read-pair : tie.Need-shared-slice-read-pair
 shared-slice-read-pair c = search needs
 
--- src/main.rt:202:41
 add-pair : tie.Need-add-pair
 add-pair c = search needs
 
--- src/main.rt:202:35
 shared-slice-read-pair-2 : tie.Need-shared-slice-read-pair-2
 shared-slice-read-pair-2 c = search needs
 
--- src/main.rt:202:9
 pair-requires : tie.Need-pair-requires
 pair-requires c κs = search needs
 
--- src/main.rt:204:15
 add-word : tie.Need-add-word
 add-word c = search needs
 
--- src/main.rt:204:9
 shared-slice-read-word : tie.Need-shared-slice-read-word
 shared-slice-read-word c = search needs
 
--- src/main.rt:205:15
 add-word-2 : tie.Need-add-word-2
 add-word-2 c = search needs
 
--- src/main.rt:205:9
 shared-slice-read-word-2 : tie.Need-shared-slice-read-word-2
 shared-slice-read-word-2 c = search needs
 
--- src/main.rt:206:15
 add-word-3 : tie.Need-add-word-3
 add-word-3 c = search needs
 
--- src/main.rt:206:9
 shared-slice-read-word-3 : tie.Need-shared-slice-read-word-3
 shared-slice-read-word-3 c = search needs
 
--- src/main.rt:207:15
 add-word-4 : tie.Need-add-word-4
 add-word-4 c = search needs
 
--- src/main.rt:207:9
 shared-slice-read-word-4 : tie.Need-shared-slice-read-word-4
 shared-slice-read-word-4 c = search needs
 
--- src/main.rt:203:9
 word-requires : tie.Need-word-requires
 word-requires c κs = search needs
 
--- src/main.rt:210:9
 lent-requires : tie.Need-lent-requires
 lent-requires c κs = search needs
 
--- src/main.rt:211:16
 add-from : tie.Need-add-from
 add-from c = search needs
 
--- src/main.rt:214:9
 sub-run-on : tie.Need-sub-run-on
 sub-run-on c = search needs
 
--- src/main.rt:214:9
 part-run-on-start : tie.Need-part-run-on-start
 part-run-on-start c = search needs
 
--- src/main.rt:214:9
 part-run-on-end : tie.Need-part-run-on-end
 part-run-on-end c = search needs
 
--- src/main.rt:215:9
 slice-aggregate-run-on : tie.Need-slice-aggregate-run-on
 slice-aggregate-run-on c = search needs
 
--- src/main.rt:219:9
 slice-aggregate-run-on-2 : tie.Need-slice-aggregate-run-on-2
 slice-aggregate-run-on-2 c = search needs
 
--- src/main.rt:212:5
 run-on-requires : tie.Need-run-on-requires
 run-on-requires c κs = search needs
 
--- src/main.rt:191:1
 returns-3 : tie.Need-returns-3
 returns-3 c = search needs
 

@@ -27,7 +27,10 @@ slice-reshare-prefix-run-case : tie.Need-slice-reshare-prefix-run-case
 slice-reshare-prefix-run-case c = search needs
 
 slice-aggregate-run-case : tie.Need-slice-aggregate-run-case
-slice-aggregate-run-case c = sym (length-take-le _ _ (omega (arith, length-front (c .before .before .before .before .before .before .before .before .args .buffer .now) (c .before .before .before .before .read-full .last .1 .0) (c .before .before .before .before .before .before .before .before .args .n) (c .before .before .before .before .read-full .kept .1 .0))))
+slice-aggregate-run-case c =
+    let at-read-full = c .before .before .before .before in
+    let entry = at-read-full .before .before .before .before in
+    sym (length-take-le _ _ (omega (arith, length-front (entry .args .buffer .now) (at-read-full .read-full .last .1 .0) (entry .args .n) (at-read-full .read-full .kept .1 .0))))
 
 run-case-requires : tie.Need-run-case-requires
 run-case-requires c κs = search needs

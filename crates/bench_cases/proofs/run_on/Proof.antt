@@ -10,59 +10,45 @@ use Rattle.bench.proofs.machine.run.Reads as run-reads
 use Rattle.bench_cases.proofs.fill.Reads as fill-reads
 use Rattle.bench_cases.proofs.print_answer.Reads as print-answer-reads
 
--- src/main.rt:180:5
 fill-requires : tie.Need-fill-requires
 fill-requires c κs = search needs
 
--- src/main.rt:182:9
 same-length : tie.Need-same-length
 same-length c = search needs
 
--- src/main.rt:182:9
 returns : tie.Need-returns
 returns c = search needs
 
--- src/main.rt:185:9
 same-length-2 : tie.Need-same-length-2
 same-length-2 c = search needs
 
--- src/main.rt:185:9
 returns-2 : tie.Need-returns-2
 returns-2 c = search needs
 
--- src/main.rt:187:23
 slice-reshare-prefix-run : tie.Need-slice-reshare-prefix-run
 slice-reshare-prefix-run c = search needs
 
--- src/main.rt:187:23
 slice-aggregate-run : tie.Need-slice-aggregate-run
 slice-aggregate-run c = sym (length-take-le _ _ (omega arith))
 
--- src/main.rt:187:50
 slice-relend-prefix-run : tie.Need-slice-relend-prefix-run
 slice-relend-prefix-run c = search needs
 
--- src/main.rt:187:50
 slice-aggregate-run-2 : tie.Need-slice-aggregate-run-2
 slice-aggregate-run-2 c = sym (length-take-le _ _ (omega arith))
 
--- src/main.rt:187:9
 run-requires : tie.Need-run-requires
 run-requires c κs = search needs
 
--- src/main.rt:188:5
 print-answer-requires : tie.Need-print-answer-requires
 print-answer-requires c κs = search needs
 
--- src/main.rt:170:1
 same-length-3 : tie.Need-same-length-3
 same-length-3 c = search needs
 
--- src/main.rt:170:1
 same-length-4 : tie.Need-same-length-4
 same-length-4 c = search needs
 
--- src/main.rt:170:1
 returns-3 : tie.Need-returns-3
 returns-3 c = search needs
 

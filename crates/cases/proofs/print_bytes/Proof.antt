@@ -24,7 +24,9 @@ shared-slice-read-print-decimal : tie.Need-shared-slice-read-print-decimal Inv-l
 shared-slice-read-print-decimal c = search needs
 
 cast-print-decimal : tie.Need-cast-print-decimal Inv-loop μ-loop
-cast-print-decimal c = omega (arith, c .shared-slice-known2 .given (c .before .before .before .before .loop .i))
+cast-print-decimal c =
+    let at-loop = c .before .before .before .before in
+    omega (arith, c .shared-slice-known2 .given (at-loop .loop .i))
 
 print-decimal-requires : tie.Need-print-decimal-requires Inv-loop μ-loop
 print-decimal-requires c κs = search needs

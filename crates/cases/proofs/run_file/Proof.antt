@@ -27,7 +27,10 @@ slice-reshare-prefix-print-case : tie.Need-slice-reshare-prefix-print-case
 slice-reshare-prefix-print-case c = search needs
 
 slice-aggregate-print-case : tie.Need-slice-aggregate-print-case
-slice-aggregate-print-case c = sym (length-take-le _ _ (omega (arith, length-front (c .before .before .before .before .before .before .before .before .args .buffer .now) (c .before .before .before .before .read-full .last .1 .0) (c .before .before .before .before .before .before .before .before .args .n) (c .before .before .before .before .read-full .kept .1 .0))))
+slice-aggregate-print-case c =
+    let at-read-full = c .before .before .before .before in
+    let entry = at-read-full .before .before .before .before in
+    sym (length-take-le _ _ (omega (arith, length-front (entry .args .buffer .now) (at-read-full .read-full .last .1 .0) (entry .args .n) (at-read-full .read-full .kept .1 .0))))
 
 print-case-requires : tie.Need-print-case-requires
 print-case-requires c κs = search needs

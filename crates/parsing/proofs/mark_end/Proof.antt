@@ -28,7 +28,10 @@ shared-slice-read-if2-2 : tie.Need-shared-slice-read-if2-2 Inv-loop μ-loop
 shared-slice-read-if2-2 c = search needs
 
 returns-2 : tie.Need-returns-2 Inv-loop μ-loop
-returns-2 c = sym (marked-wrong (c .before .before .before .before .before .before .args .mark .now) (c .before .before .before .before .before .before .args .file .now) (c .before .before .before .before .before .loop .i) (omega arith) (omega arith) (c .if2 .taken)) ∙ c .before .before .before .before .before .loop .inv .1
+returns-2 c =
+    let at-loop = c .before .before .before .before .before in
+    let entry = at-loop .before in
+    sym (marked-wrong (entry .args .mark .now) (entry .args .file .now) (at-loop .loop .i) (omega arith) (omega arith) (c .if2 .taken)) ∙ at-loop .loop .inv .1
 
 add-i : tie.Need-add-i Inv-loop μ-loop
 add-i c = search needs
@@ -37,7 +40,10 @@ loop-less : tie.Need-loop-less Inv-loop μ-loop
 loop-less c = search needs
 
 loop-again : tie.Need-loop-again Inv-loop μ-loop
-loop-again c = (omega arith, ap pastOf (marked-on (c .before .before .before .before .before .before .args .mark .now) (c .before .before .before .before .before .before .args .file .now) (c .before .before .before .before .before .loop .i) (omega arith) (omega arith) (c .if2 .left)) ∙ c .before .before .before .before .before .loop .inv .1)
+loop-again c =
+    let at-loop = c .before .before .before .before .before in
+    let entry = at-loop .before in
+    (omega arith, ap pastOf (marked-on (entry .args .mark .now) (entry .args .file .now) (at-loop .loop .i) (omega arith) (omega arith) (c .if2 .left)) ∙ at-loop .loop .inv .1)
 
 returns-3 : tie.Need-returns-3 Inv-loop μ-loop
 returns-3 c = sym (ap pastOf (marked-done _ _ _ (c .loop-test .left))) ∙ c .before .loop .inv .1

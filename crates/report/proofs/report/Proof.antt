@@ -94,7 +94,9 @@ slice-aggregate-fill : tie.Need-slice-aggregate-fill
 slice-aggregate-fill c = search needs
 
 fill-requires : tie.Need-fill-requires
-fill-requires c κs = (omega (arith, c .before .before .before .before .before .before .before .before .before .before .shared-slice-known2 .given 0), omega arith)
+fill-requires c κs =
+    let at-shared-slice-known2 = c .before .before .before .before .before .before .before .before .before .before in
+    (omega (arith, at-shared-slice-known2 .shared-slice-known2 .given 0), omega arith)
 
 sub-write-file : tie.Need-sub-write-file
 sub-write-file c = search needs
@@ -106,18 +108,26 @@ part-write-file-end : tie.Need-part-write-file-end
 part-write-file-end c = search needs
 
 array-share-prefix-arguments : tie.Need-array-share-prefix-arguments
-array-share-prefix-arguments c = omega (arith, c .before .before .before .before .before .before .before .before .before .before .before .before .before .before .shared-slice-known2 .given 0)
+array-share-prefix-arguments c =
+    let at-shared-slice-known2 = c .before .before .before .before .before .before .before .before .before .before .before .before .before .before in
+    omega (arith, at-shared-slice-known2 .shared-slice-known2 .given 0)
 
 slice-aggregate-write-file : tie.Need-slice-aggregate-write-file
-slice-aggregate-write-file c = sym (length-take-le _ _ (omega (arith, c .before .before .before .before .before .before .before .before .before .before .before .before .before .before .before .shared-slice-known2 .given 0)))
+slice-aggregate-write-file c =
+    let at-shared-slice-known2 = c .before .before .before .before .before .before .before .before .before .before .before .before .before .before .before in
+    sym (length-take-le _ _ (omega (arith, at-shared-slice-known2 .shared-slice-known2 .given 0)))
 
 write-file-requires : tie.Need-write-file-requires
 write-file-requires c κs = search needs
 
 returns-3 : tie.Need-returns-3
 returns-3 c =
+    let at-fill = c .before .before .before .before .before in
+    let at-word = at-fill .before .before in
+    let at-pair = at-word .before .before .before .before .before in
+    let at-if2 = at-pair .before .before .before in
     let s = c .before .before .before .before .before .before .before .before .before .before .before .before .before .before .before .before .before .before .before in
-    (wrote-as (with-header (s .args .input .now) (c .before .before .before .before .before .before .before .before .before .before .before .before .before .before .before .if2 .left) refl (c .before .before .before .before .before .fill .ensures) (c .before .before .before .before .before .before .before .before .before .before .before .before .pair .ensures) (c .before .before .before .before .before .before .before .word .ensures)) (c .write-file .ensures), wrote-within (c .write-file .ensures))
+    (wrote-as (with-header (s .args .input .now) (at-if2 .if2 .left) refl (at-fill .fill .ensures) (at-pair .pair .ensures) (at-word .word .ensures)) (c .write-file .ensures), wrote-within (c .write-file .ensures))
 
 pub report-spec : {M : Type 1} → statement M
 report-spec =

@@ -13,6 +13,10 @@ use Rattle.report.proofs.write_sides.Reads as write-sides-reads
 use Rattle.text.proofs.write_refused.Reads as write-refused-reads
 use Rattle.translator.proofs.translate.Reads as translate-reads
 
+-- Ways back to earlier places that several answers take.
+abbrev entry-before-else1 : tie.Else1 → tie.Start
+entry-before-else1 c = c .before .before .before
+
 write-refused-requires : tie.Need-write-refused-requires
 write-refused-requires c κs = search needs
 
@@ -20,7 +24,10 @@ same-length : tie.Need-same-length
 same-length c = search needs
 
 returns : tie.Need-returns
-returns c = wrote-as (file-15 (c .before .before .before .before .before .before .before .args .file .now) (c .before .before .before .before .before .before .before .args .arguments .now) (c .before .before .before .before .before .before .before .args .depth) (c .before .before .before .before .before .before .before .args .budget) (c .before .before .before .before .if1 .taken)) (c .before .before .write-refused .ensures)
+returns c =
+    let at-if1 = c .before .before .before .before in
+    let entry = at-if1 .before .before .before in
+    wrote-as (file-15 (entry .args .file .now) (entry .args .arguments .now) (entry .args .depth) (entry .args .budget) (at-if1 .if1 .taken)) (c .before .before .write-refused .ensures)
 
 slice-aggregate-translate : tie.Need-slice-aggregate-translate
 slice-aggregate-translate c = search needs
@@ -38,7 +45,12 @@ same-length-2 : tie.Need-same-length-2
 same-length-2 c = search needs
 
 returns-2 : tie.Need-returns-2
-returns-2 c = wrote-as (file-refused (c .before .before .before .before .before .before .before .before .before .before .before .before .before .args .file .now) (c .before .before .before .before .before .before .before .before .before .before .before .before .before .args .arguments .now) (c .before .before .before .before .before .before .before .before .before .before .before .before .before .args .depth) (c .before .before .before .before .before .before .before .before .before .before .before .before .before .args .budget) (c .before .before .before .before .before .before .before .before .before .before .if1 .left) (c .before .before .before .before .before .before .before .before .translate .result) (c .before .before .before .before .before .before .before .before .translate .ensures .0) (c .before .before .before .before .before .r .given .1)) (c .before .before .write-refusal .ensures)
+returns-2 c =
+    let at-r = c .before .before .before .before .before in
+    let at-translate = at-r .before .before .before in
+    let at-if1 = at-translate .before .before in
+    let entry = entry-before-else1 at-if1 in
+    wrote-as (file-refused (entry .args .file .now) (entry .args .arguments .now) (entry .args .depth) (entry .args .budget) (at-if1 .if1 .left) (at-translate .translate .result) (at-translate .translate .ensures .0) (at-r .r .given .1)) (c .before .before .write-refusal .ensures)
 
 enum-told : tie.Need-enum-told
 enum-told c = search needs
@@ -62,7 +74,13 @@ same-length-3 : tie.Need-same-length-3
 same-length-3 c = search needs
 
 returns-3 : tie.Need-returns-3
-returns-3 c = wrote-as (file-sides (c .before .before .before .before .before .before .before .before .before .before .before .before .before .before .before .before .before .before .before .args .file .now) (c .before .before .before .before .before .before .before .before .before .before .before .before .before .before .before .before .before .before .before .args .arguments .now) (c .before .before .before .before .before .before .before .before .before .before .before .before .before .before .before .before .before .before .before .args .depth) (c .before .before .before .before .before .before .before .before .before .before .before .before .before .before .before .before .before .before .before .args .budget) (c .before .before .before .before .before .before .before .before .before .before .before .before .before .before .before .before .if1 .left) (c .before .before .before .before .before .before .before .before .before .before .before .before .before .before .translate .result) (c .before .before .before .before .before .before .before .before .before .before .before .before .before .before .translate .ensures .0) (c .before .before .before .before .before .before .before .before .before .before .before .enum-told .given .1) _ _ _ (c .before .before .before .before .before .before .before .side-by-side .ensures .0) (omega arith) (omega arith) (omega arith)) (c .before .before .write-sides .ensures)
+returns-3 c =
+    let at-side-by-side = c .before .before .before .before .before .before .before in
+    let at-enum-told = at-side-by-side .before .before .before .before in
+    let at-translate = at-enum-told .before .before .before in
+    let at-if1 = at-translate .before .before in
+    let entry = entry-before-else1 at-if1 in
+    wrote-as (file-sides (entry .args .file .now) (entry .args .arguments .now) (entry .args .depth) (entry .args .budget) (at-if1 .if1 .left) (at-translate .translate .result) (at-translate .translate .ensures .0) (at-enum-told .enum-told .given .1) _ _ _ (at-side-by-side .side-by-side .ensures .0) (omega arith) (omega arith) (omega arith)) (c .before .before .write-sides .ensures)
 
 pub write-file-spec : {M : Type 1} → statement M
 write-file-spec =

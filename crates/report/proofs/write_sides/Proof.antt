@@ -36,13 +36,21 @@ same-length : tie.Need-same-length
 same-length c = search needs
 
 returns : tie.Need-returns
-returns c = wrote-as (told-refused (c .before .before .before .before .before .before .before .before .args .a) (c .before .before .before .before .before .verdict .given .1)) (c .before .before .write-refusal .ensures)
+returns c =
+    let at-verdict = c .before .before .before .before .before in
+    let entry = at-verdict .before .before .before in
+    wrote-as (told-refused (entry .args .a) (at-verdict .verdict .given .1)) (c .before .before .write-refusal .ensures)
 
 same-length-2 : tie.Need-same-length-2
 same-length-2 c = search needs
 
 returns-2 : tie.Need-returns-2
-returns-2 c = wrote-as (told-both (c .before .before .before .before .before .before .before .before .before .before .before .args .a) (c .before .before .before .before .before .before .before .before .enum-told .given .1) (c .before .before .before .before .before .bench-ended .ensures) (c .before .before .before .before .controller-ended .ensures)) (c .before .before .write-both .ensures)
+returns-2 c =
+    let at-controller-ended = c .before .before .before .before in
+    let at-bench-ended = at-controller-ended .before in
+    let at-enum-told = at-bench-ended .before .before .before in
+    let entry = at-enum-told .before .before .before in
+    wrote-as (told-both (entry .args .a) (at-enum-told .enum-told .given .1) (at-bench-ended .bench-ended .ensures) (at-controller-ended .controller-ended .ensures)) (c .before .before .write-both .ensures)
 
 pub write-sides-spec : {M : Type 1} → statement M
 write-sides-spec =

@@ -11,55 +11,42 @@ use Rattle.io.proofs.read_full.Reads as read-full-reads
 use Rattle.target_cases.proofs.number.Reads as number-reads
 use Rattle.target_cases.proofs.run_file.Reads as run-file-reads
 
--- src/main.rt:39:43
 slice-aggregate-read-full : tie.Need-slice-aggregate-read-full
 slice-aggregate-read-full c = search needs
 
--- src/main.rt:39:9
 read-full-requires : tie.Need-read-full-requires
 read-full-requires c κs = search needs
 
--- src/main.rt:41:9
 returns : tie.Need-returns
 returns c = search needs
 
--- src/main.rt:43:20
 array-read-number : tie.Need-array-read-number
 array-read-number c = search needs
 
--- src/main.rt:43:29
 array-read-number-2 : tie.Need-array-read-number-2
 array-read-number-2 c = search needs
 
--- src/main.rt:43:38
 array-read-number-3 : tie.Need-array-read-number-3
 array-read-number-3 c = search needs
 
--- src/main.rt:43:9
 number-requires : tie.Need-number-requires
 number-requires c κs = search needs
 
--- src/main.rt:44:22
 large-buffer-requires : tie.Need-large-buffer-requires
 large-buffer-requires c κs = search needs
 
--- src/main.rt:46:9
 returns-2 : tie.Need-returns-2
 returns-2 c = search needs
 
--- src/main.rt:48:14
 array-borrow-prefix-buffer : tie.Need-array-borrow-prefix-buffer
 array-borrow-prefix-buffer c = search needs
 
--- src/main.rt:48:14
 slice-aggregate-run-file : tie.Need-slice-aggregate-run-file
 slice-aggregate-run-file c = let l = c .before .before .large-buffer .ensures in let h = c .before .if2 .left in sym (length-take-le _ _ (omega (arith, l, h)))
 
--- src/main.rt:48:5
 run-file-requires : tie.Need-run-file-requires
 run-file-requires c κs = search needs
 
--- src/main.rt:37:1
 returns-3 : tie.Need-returns-3
 returns-3 c = search needs
 

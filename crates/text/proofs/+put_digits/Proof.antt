@@ -99,7 +99,8 @@ put-digits-put-digit-requires-3 : (t : ℕ) → put-digits-lts.Need-put-digit-re
   put-digits.Post,
 ) (put-digits-at t) put-digits.Post
 put-digits-put-digit-requires-3 t c κs =
-    let room = wrote-room _ 1 (c .before .before .before .put-digits .ensures) (length-digits _ _) (omega arith) in
+    let at-put-digits = c .before .before .before in
+    let room = wrote-room _ 1 (at-put-digits .put-digits .ensures) (length-digits _ _) (omega arith) in
     (omega arith, omega arith)
 
 put-digits-same-length-3 : (t : ℕ) → put-digits-lts.Need-same-length-3 (
@@ -117,8 +118,9 @@ put-digits-returns-3 : (t : ℕ) → put-digits-lts.Need-returns-3 (
   put-digits.Post,
 ) (put-digits-at t) put-digits.Post
 put-digits-returns-3 t c =
+    let at-put-digits = c .before .before .before .before .before .before in
     let s = c .before .before .before .before .before .before .before .before .before .before .before in
-    wrote-as (digits-more (s .args .k) _ (s .args .n) (omega arith) refl (omega arith)) (wrote-then (c .before .before .before .before .before .before .put-digits .ensures) (c .before .before .put-digit3 .ensures))
+    wrote-as (digits-more (s .args .k) _ (s .args .n) (omega arith) refl (omega arith)) (wrote-then (at-put-digits .put-digits .ensures) (c .before .before .put-digit3 .ensures))
 
 pub +put-digits-spec : {M : Type 1} → statement M
 +put-digits-spec = close μ-put-digits λ t. put-digits-lts.spec (

@@ -8,16 +8,24 @@ cast-wide : tie.Need-cast-wide
 cast-wide c = wide-fits (c .before .args .v) (c .before .fits .v)
 
 sub-wide : tie.Need-sub-wide
-sub-wide c = turned (c .before .args .v) (c .before .fits .v) (sign-of (c .before .args .v) _ (c .before .fits .v) (c .if1 .taken)) .wide
+sub-wide c =
+    let entry = c .before in
+    turned (entry .args .v) (entry .fits .v) (sign-of (entry .args .v) _ (entry .fits .v) (c .if1 .taken)) .wide
 
 cast-result : tie.Need-cast-result
-cast-result c = let p = turned (c .before .args .v) (c .before .fits .v) (sign-of (c .before .args .v) _ (c .before .fits .v) (c .if1 .taken)) .plain in (p .sign, p .fits)
+cast-result c =
+    let entry = c .before in
+    let p = turned (entry .args .v) (entry .fits .v) (sign-of (entry .args .v) _ (entry .fits .v) (c .if1 .taken)) .plain in (p .sign, p .fits)
 
 returns : tie.Need-returns
-returns c = turned (c .before .args .v) (c .before .fits .v) (sign-of (c .before .args .v) _ (c .before .fits .v) (c .if1 .taken)) .same
+returns c =
+    let entry = c .before in
+    turned (entry .args .v) (entry .fits .v) (sign-of (entry .args .v) _ (entry .fits .v) (c .if1 .taken)) .same
 
 cast-result-2 : tie.Need-cast-result-2
-cast-result-2 c = let p = plain (c .before .args .v) (c .before .fits .v) (sign-of (c .before .args .v) _ (c .before .fits .v) (c .if1 .left)) in (p .sign, p .fits)
+cast-result-2 c =
+    let entry = c .before in
+    let p = plain (entry .args .v) (entry .fits .v) (sign-of (entry .args .v) _ (entry .fits .v) (c .if1 .left)) in (p .sign, p .fits)
 
 returns-2 : tie.Need-returns-2
 returns-2 c = search needs

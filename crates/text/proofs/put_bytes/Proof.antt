@@ -33,8 +33,9 @@ loop-less c = omega arith
 
 loop-again : tie.Need-loop-again Inv-loop μ-loop
 loop-again c =
-    let s = c .before .before .before in
-    let l = c .before .before .loop in
+    let at-before = c .before .before in
+    let s = at-before .before in
+    let l = at-before .loop in
     word-more (s .args .at) (l .i) (s .args .word .now) (s .args .out .now) (l .out) (l .inv) (omega arith)
 
 add-result : tie.Need-add-result Inv-loop μ-loop

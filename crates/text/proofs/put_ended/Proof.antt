@@ -51,26 +51,38 @@ same-length c = search needs
 
 returns : tie.Need-returns
 returns c =
-    let f : SFits w32 (c .before .before .before .before .before .before .before .before .before .before .e .given .0 .0) = search needs in
-    wrote-as (ended-value (c .before .before .before .before .before .before .before .before .before .before .before .before .before .args .e) _ _ (c .before .before .before .before .before .before .before .before .before .before .e .given .1) (toZ-ofZ f)) (wrote-then (c .before .before .before .before .before .before .put-bytes .ensures) (c .before .before .put-signed .ensures))
+    let at-put-bytes = c .before .before .before .before .before .before in
+    let at-e = at-put-bytes .before .before .before .before in
+    let entry = at-e .before .before .before in
+    let f : SFits w32 (at-e .e .given .0 .0) = search needs in
+    wrote-as (ended-value (entry .args .e) _ _ (at-e .e .given .1) (toZ-ofZ f)) (wrote-then (at-put-bytes .put-bytes .ensures) (c .before .before .put-signed .ensures))
 
 same-length-2 : tie.Need-same-length-2
 same-length-2 c = search needs
 
 returns-2 : tie.Need-returns-2
-returns-2 c = wrote-as (ended-uncaught (c .before .before .before .before .before .before .before .before .args .e) (c .before .before .before .before .before .enum-told .given .1)) (c .before .before .put-bytes2 .ensures)
+returns-2 c =
+    let at-enum-told = c .before .before .before .before .before in
+    let entry = at-enum-told .before .before .before in
+    wrote-as (ended-uncaught (entry .args .e) (at-enum-told .enum-told .given .1)) (c .before .before .put-bytes2 .ensures)
 
 same-length-3 : tie.Need-same-length-3
 same-length-3 c = search needs
 
 returns-3 : tie.Need-returns-3
-returns-3 c = wrote-as (ended-spent (c .before .before .before .before .before .before .before .before .args .e) (c .before .before .before .before .before .enum-told2 .given .1)) (c .before .before .put-bytes3 .ensures)
+returns-3 c =
+    let at-enum-told2 = c .before .before .before .before .before in
+    let entry = at-enum-told2 .before .before .before in
+    wrote-as (ended-spent (entry .args .e) (at-enum-told2 .enum-told2 .given .1)) (c .before .before .put-bytes3 .ensures)
 
 same-length-4 : tie.Need-same-length-4
 same-length-4 c = search needs
 
 returns-4 : tie.Need-returns-4
-returns-4 c = wrote-as (ended-deep (c .before .before .before .before .before .before .before .before .args .e) (c .before .before .before .before .before .enum-told3 .given .1)) (c .before .before .put-bytes4 .ensures)
+returns-4 c =
+    let at-enum-told3 = c .before .before .before .before .before in
+    let entry = at-enum-told3 .before .before .before in
+    wrote-as (ended-deep (entry .args .e) (at-enum-told3 .enum-told3 .given .1)) (c .before .before .put-bytes4 .ensures)
 
 pub put-ended-spec : {M : Type 1} → statement M
 put-ended-spec =

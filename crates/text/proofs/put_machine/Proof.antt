@@ -22,15 +22,19 @@ slice-aggregate-put-numbered : tie.Need-slice-aggregate-put-numbered
 slice-aggregate-put-numbered c = search needs
 
 put-numbered-requires : tie.Need-put-numbered-requires
-put-numbered-requires c κs = let room = wrote-room _ 28 (c .before .before .before .before .put-ended .ensures) (length-stop _) (omega arith) in omega arith
+put-numbered-requires c κs =
+    let at-put-ended = c .before .before .before .before in
+    let room = wrote-room _ 28 (at-put-ended .put-ended .ensures) (length-stop _) (omega arith) in omega arith
 
 slice-aggregate-put-bytes-2 : tie.Need-slice-aggregate-put-bytes-2
 slice-aggregate-put-bytes-2 c = search needs
 
 put-bytes-requires-3 : tie.Need-put-bytes-requires-3
 put-bytes-requires-3 c κs =
-    let room = wrote-room _ 28 (c .before .before .before .before .before .before .before .before .before .put-ended .ensures) (length-stop _) (omega arith) in
-    let rest = wrote-room _ 1 (c .before .before .before .before .put-numbered .ensures) (length-numbered _ _) (omega arith) in
+    let at-put-numbered = c .before .before .before .before in
+    let at-put-ended = at-put-numbered .before .before .before .before .before in
+    let room = wrote-room _ 28 (at-put-ended .put-ended .ensures) (length-stop _) (omega arith) in
+    let rest = wrote-room _ 1 (at-put-numbered .put-numbered .ensures) (length-numbered _ _) (omega arith) in
     omega arith
 
 same-length : tie.Need-same-length
@@ -38,7 +42,12 @@ same-length c = search needs
 
 returns : tie.Need-returns
 unfolding machineLine
-returns c = wrote-then (wrote-then (wrote-then (wrote-then (c .before .before .before .before .before .before .before .before .before .before .before .before .before .before .before .before .before .before .before .before .before .put-bytes .ensures) (c .before .before .before .before .before .before .before .before .before .before .before .before .before .before .before .before .put-bytes2 .ensures)) (c .before .before .before .before .before .before .before .before .before .before .before .before .put-ended .ensures)) (c .before .before .before .before .before .before .before .put-numbered .ensures)) (c .before .before .put-bytes3 .ensures)
+returns c =
+    let at-put-numbered = c .before .before .before .before .before .before .before in
+    let at-put-ended = at-put-numbered .before .before .before .before .before in
+    let at-put-bytes2 = at-put-ended .before .before .before .before in
+    let at-put-bytes = at-put-bytes2 .before .before .before .before .before in
+    wrote-then (wrote-then (wrote-then (wrote-then (at-put-bytes .put-bytes .ensures) (at-put-bytes2 .put-bytes2 .ensures)) (at-put-ended .put-ended .ensures)) (at-put-numbered .put-numbered .ensures)) (c .before .before .put-bytes3 .ensures)
 
 pub put-machine-spec : {M : Type 1} → statement M
 put-machine-spec =

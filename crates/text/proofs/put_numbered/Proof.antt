@@ -16,7 +16,9 @@ same-length c = search needs
 
 returns : tie.Need-returns
 unfolding numbered
-returns c = wrote-then (c .before .before .before .before .before .before .put-bytes .ensures) (c .before .before .put-decimal .ensures)
+returns c =
+    let at-put-bytes = c .before .before .before .before .before .before in
+    wrote-then (at-put-bytes .put-bytes .ensures) (c .before .before .put-decimal .ensures)
 
 pub put-numbered-spec : {M : Type 1} → statement M
 put-numbered-spec =

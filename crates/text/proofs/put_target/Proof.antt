@@ -16,14 +16,18 @@ slice-aggregate-put-bytes : tie.Need-slice-aggregate-put-bytes
 slice-aggregate-put-bytes c = search needs
 
 put-bytes-requires : tie.Need-put-bytes-requires
-put-bytes-requires c κs = let room = wrote-room _ 1 (c .before .before .before .before .put-numbered .ensures) (length-numbered _ _) (omega arith) in omega arith
+put-bytes-requires c κs =
+    let at-put-numbered = c .before .before .before .before in
+    let room = wrote-room _ 1 (at-put-numbered .put-numbered .ensures) (length-numbered _ _) (omega arith) in omega arith
 
 same-length : tie.Need-same-length
 same-length c = search needs
 
 returns : tie.Need-returns
 unfolding targetLine
-returns c = wrote-then (c .before .before .before .before .before .before .before .put-numbered .ensures) (c .before .before .put-bytes .ensures)
+returns c =
+    let at-put-numbered = c .before .before .before .before .before .before .before in
+    wrote-then (at-put-numbered .put-numbered .ensures) (c .before .before .put-bytes .ensures)
 
 pub put-target-spec : {M : Type 1} → statement M
 put-target-spec =

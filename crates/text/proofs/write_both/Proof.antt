@@ -13,15 +13,19 @@ slice-aggregate-put-machine : tie.Need-slice-aggregate-put-machine
 slice-aggregate-put-machine c = search needs
 
 put-machine-requires : tie.Need-put-machine-requires
-put-machine-requires c κs = let room = wrote-room _ 128 (c .before .before .before .before .put-target .ensures) (length-target _) (omega arith) in omega arith
+put-machine-requires c κs =
+    let at-put-target = c .before .before .before .before in
+    let room = wrote-room _ 128 (at-put-target .put-target .ensures) (length-target _) (omega arith) in omega arith
 
 slice-aggregate-put-machine-2 : tie.Need-slice-aggregate-put-machine-2
 slice-aggregate-put-machine-2 c = search needs
 
 put-machine-requires-2 : tie.Need-put-machine-requires-2
 put-machine-requires-2 c κs =
-    let room = wrote-room _ 128 (c .before .before .before .before .before .before .before .before .before .put-target .ensures) (length-target _) (omega arith) in
-    let rest = wrote-room _ 66 (c .before .before .before .before .put-machine .ensures) (length-machine _ _ _) (omega arith) in
+    let at-put-machine = c .before .before .before .before in
+    let at-put-target = at-put-machine .before .before .before .before .before in
+    let room = wrote-room _ 128 (at-put-target .put-target .ensures) (length-target _) (omega arith) in
+    let rest = wrote-room _ 66 (at-put-machine .put-machine .ensures) (length-machine _ _ _) (omega arith) in
     omega arith
 
 same-length : tie.Need-same-length
@@ -29,7 +33,10 @@ same-length c = search needs
 
 returns : tie.Need-returns
 unfolding bothText
-returns c = wrote-then (wrote-then (c .before .before .before .before .before .before .before .before .before .before .before .before .put-target .ensures) (c .before .before .before .before .before .before .before .put-machine .ensures)) (c .before .before .put-machine2 .ensures)
+returns c =
+    let at-put-machine = c .before .before .before .before .before .before .before in
+    let at-put-target = at-put-machine .before .before .before .before .before in
+    wrote-then (wrote-then (at-put-target .put-target .ensures) (at-put-machine .put-machine .ensures)) (c .before .before .put-machine2 .ensures)
 
 pub write-both-spec : {M : Type 1} → statement M
 write-both-spec =

@@ -16,15 +16,19 @@ slice-aggregate-put-numbered-2 : tie.Need-slice-aggregate-put-numbered-2
 slice-aggregate-put-numbered-2 c = search needs
 
 put-numbered-requires-2 : tie.Need-put-numbered-requires-2
-put-numbered-requires-2 c κs = let room = wrote-room _ 25 (c .before .before .before .before .put-numbered .ensures) (length-numbered _ _) (omega arith) in omega arith
+put-numbered-requires-2 c κs =
+    let at-put-numbered = c .before .before .before .before in
+    let room = wrote-room _ 25 (at-put-numbered .put-numbered .ensures) (length-numbered _ _) (omega arith) in omega arith
 
 slice-aggregate-put-bytes : tie.Need-slice-aggregate-put-bytes
 slice-aggregate-put-bytes c = search needs
 
 put-bytes-requires : tie.Need-put-bytes-requires
 put-bytes-requires c κs =
-    let room = wrote-room _ 25 (c .before .before .before .before .before .before .before .before .before .put-numbered .ensures) (length-numbered _ _) (omega arith) in
-    let rest = wrote-room _ 1 (c .before .before .before .before .put-numbered2 .ensures) (length-numbered _ _) (omega arith) in
+    let at-put-numbered2 = c .before .before .before .before in
+    let at-put-numbered = at-put-numbered2 .before .before .before .before .before in
+    let room = wrote-room _ 25 (at-put-numbered .put-numbered .ensures) (length-numbered _ _) (omega arith) in
+    let rest = wrote-room _ 1 (at-put-numbered2 .put-numbered2 .ensures) (length-numbered _ _) (omega arith) in
     omega arith
 
 same-length : tie.Need-same-length
@@ -32,7 +36,10 @@ same-length c = search needs
 
 returns : tie.Need-returns
 unfolding refusedText
-returns c = wrote-then (wrote-then (c .before .before .before .before .before .before .before .before .before .before .before .before .put-numbered .ensures) (c .before .before .before .before .before .before .before .put-numbered2 .ensures)) (c .before .before .put-bytes .ensures)
+returns c =
+    let at-put-numbered2 = c .before .before .before .before .before .before .before in
+    let at-put-numbered = at-put-numbered2 .before .before .before .before .before in
+    wrote-then (wrote-then (at-put-numbered .put-numbered .ensures) (at-put-numbered2 .put-numbered2 .ensures)) (c .before .before .put-bytes .ensures)
 
 pub write-refused-spec : {M : Type 1} → statement M
 write-refused-spec =

@@ -5,6 +5,10 @@ use Rattle.translator.proofs.translate.Statement.{statement}
 use Rattle.translator.proofs.translate.Tie as tie
 use Rattle.procedure_file.proofs.lookup.load.Reads as load-reads
 
+-- Ways back to earlier places that several answers take.
+abbrev entry-before-load : tie.After-load → tie.Start
+entry-before-load c = c .before .before .before .before .before .before .before .before
+
 load-requires : tie.Need-load-requires
 load-requires c κs = search needs
 
@@ -15,16 +19,28 @@ enum-told : tie.Need-enum-told
 enum-told c = search needs
 
 translate-loaded-requires : tie.Need-translate-loaded-requires
-translate-loaded-requires c κs = rw (is-accepted (c .before .before .before .before .before .before .before .before .before .before .before .before .before .before .before .before .args .file .now) (c .before .before .before .before .before .before .before .before .before .before .before .before .before .before .before .before .args .out .now) (c .before .before .before .before .before .before .before .before .load .ensures .0) (c .before .before .before .before .before .before .enum-told .given .1)) at (c .before .before .before .before .before .before .before .before .load .ensures .1)
+translate-loaded-requires c κs =
+    let at-enum-told = c .before .before .before .before .before .before in
+    let at-load = at-enum-told .before .before in
+    let entry = entry-before-load at-load in
+    rw (is-accepted (entry .args .file .now) (entry .args .out .now) (at-load .load .ensures .0) (at-enum-told .enum-told .given .1)) at (at-load .load .ensures .1)
 
 returns : tie.Need-returns
-returns c = let F = answer-refused (c .before .before .before .before .before .before .before .before .before .before .before .args .file .now) (c .before .before .before .before .before .before .before .before .before .before .before .args .out .now) (c .before .before .before .load .ensures .0) (c .before .r .given .1) in (F .answer, F .output)
+returns c =
+    let at-load = c .before .before .before in
+    let entry = entry-before-load at-load in
+    let F = answer-refused (entry .args .file .now) (entry .args .out .now) (at-load .load .ensures .0) (c .before .r .given .1) in (F .answer, F .output)
 
 same-length : tie.Need-same-length
 same-length c = search needs
 
 returns-2 : tie.Need-returns-2
-returns-2 c = let F = answer-accepted (c .before .before .before .before .before .before .before .before .before .before .before .before .before .before .before .before .before .before .before .args .file .now) (c .before .before .before .before .before .before .before .before .before .before .before .before .before .before .before .before .before .before .before .args .out .now) (c .before .before .before .before .before .before .before .before .before .before .before .load .ensures .0) (c .before .before .before .before .before .before .before .before .before .enum-told .given .1) (record { answer = c .before .before .translate-loaded .ensures .0; output = c .before .before .translate-loaded .ensures .1 }) in (F .answer, F .output)
+returns-2 c =
+    let at-translate-loaded = c .before .before in
+    let at-enum-told = at-translate-loaded .before .before .before .before .before .before .before in
+    let at-load = at-enum-told .before .before in
+    let entry = entry-before-load at-load in
+    let F = answer-accepted (entry .args .file .now) (entry .args .out .now) (at-load .load .ensures .0) (at-enum-told .enum-told .given .1) (record { answer = at-translate-loaded .translate-loaded .ensures .0; output = at-translate-loaded .translate-loaded .ensures .1 }) in (F .answer, F .output)
 
 pub translate-spec : {M : Type 1} → statement M
 translate-spec =

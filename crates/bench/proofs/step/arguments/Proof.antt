@@ -14,6 +14,10 @@ Inv-loop file at k words base vars₀ i₀ vars i = Passed file at k words base 
 abbrev μ-loop : tie.MeasureT-loop
 μ-loop file at k words base vars₀ i₀ vars i = k - i
 
+-- Ways back to earlier places that several answers take.
+abbrev in-loop-before-vars : tie.After-vars Inv-loop μ-loop → tie.In-loop Inv-loop μ-loop
+in-loop-before-vars c = c .before .before .before
+
 loop-holds : tie.Need-loop-holds Inv-loop μ-loop
 loop-holds c = passed-none (c .before .pre .0) (c .before .pre .1)
 
@@ -27,28 +31,49 @@ byte-number-requires : tie.Need-byte-number-requires Inv-loop μ-loop
 byte-number-requires c κs = tt
 
 add-from : tie.Need-add-from Inv-loop μ-loop
-add-from c = omega (arith, value-there (c .before .before .before .loop .inv) (c .before .before .loop-test .taken) (c .byte-number .ensures .0))
+add-from c =
+    let at-before = c .before .before in
+    let at-loop = at-before .before in
+    omega (arith, value-there (at-loop .loop .inv) (at-before .loop-test .taken) (c .byte-number .ensures .0))
 
 mul-vars : tie.Need-mul-vars Inv-loop μ-loop
-mul-vars c = let h = value-there (c .before .before .before .loop .inv) (c .before .before .loop-test .taken) (c .byte-number .ensures .0) in search needs
+mul-vars c =
+    let at-before = c .before .before in
+    let at-loop = at-before .before in
+    let h = value-there (at-loop .loop .inv) (at-before .loop-test .taken) (c .byte-number .ensures .0) in search needs
 
 shared-slice-copy-out-vars : tie.Need-shared-slice-copy-out-vars Inv-loop μ-loop
-shared-slice-copy-out-vars c = value-there (c .before .before .before .loop .inv) (c .before .before .loop-test .taken) (c .byte-number .ensures .0)
+shared-slice-copy-out-vars c =
+    let at-before = c .before .before in
+    let at-loop = at-before .before in
+    value-there (at-loop .loop .inv) (at-before .loop-test .taken) (c .byte-number .ensures .0)
 
 mul-t17 : tie.Need-mul-t17 Inv-loop μ-loop
-mul-t17 c = let h = place-there (c .before .before .before .before .loop .inv) (c .before .before .before .loop-test .taken) in omega arith
+mul-t17 c =
+    let at-loop-test = in-loop-before-vars c in
+    let at-loop = at-loop-test .before in
+    let h = place-there (at-loop .loop .inv) (at-loop-test .loop-test .taken) in omega arith
 
 slice-set-from-vars : tie.Need-slice-set-from-vars Inv-loop μ-loop
-slice-set-from-vars c = place-there (c .before .before .before .before .loop .inv) (c .before .before .before .loop-test .taken)
+slice-set-from-vars c =
+    let at-loop-test = in-loop-before-vars c in
+    let at-loop = at-loop-test .before in
+    place-there (at-loop .loop .inv) (at-loop-test .loop-test .taken)
 
 add-i : tie.Need-add-i Inv-loop μ-loop
-add-i c = omega (arith, place-there (c .before .before .before .before .loop .inv) (c .before .before .before .loop-test .taken))
+add-i c =
+    let at-loop-test = in-loop-before-vars c in
+    let at-loop = at-loop-test .before in
+    omega (arith, place-there (at-loop .loop .inv) (at-loop-test .loop-test .taken))
 
 loop-less : tie.Need-loop-less Inv-loop μ-loop
 loop-less c = omega arith
 
 loop-again : tie.Need-loop-again Inv-loop μ-loop
-loop-again c = passed-more (c .before .before .before .before .loop .inv) (c .before .before .before .loop-test .taken) (c .before .byte-number .ensures .0) (toZ-ofZ {w = w32} (record { sfits = c .vars .given }))
+loop-again c =
+    let at-loop-test = in-loop-before-vars c in
+    let at-loop = at-loop-test .before in
+    passed-more (at-loop .loop .inv) (at-loop-test .loop-test .taken) (c .before .byte-number .ensures .0) (toZ-ofZ {w = w32} (record { sfits = c .vars .given }))
 
 same-length : tie.Need-same-length Inv-loop μ-loop
 same-length c = c .before .loop .inv .gathered .long

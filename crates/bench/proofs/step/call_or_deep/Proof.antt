@@ -6,10 +6,14 @@ use Rattle.bench.proofs.step.call_or_deep.Statement.{statement}
 use Rattle.bench.proofs.step.call_or_deep.Tie as tie
 
 returns : tie.Need-returns
-returns c = call-deep (c .before .before .pre .0) (c .before .before .pre .1 .0) (c .before .before .pre .1 .1 .0) (c .if1 .taken)
+returns c =
+    let entry = c .before .before in
+    call-deep (entry .pre .0) (entry .pre .1 .0) (entry .pre .1 .1 .0) (c .if1 .taken)
 
 call-step-requires : tie.Need-call-step-requires
-call-step-requires c κs = (c .before .before .before .before .pre .0, (c .before .before .before .before .pre .1 .0, (c .before .before .before .before .pre .1 .1 .0, (c .before .before .before .before .pre .1 .1 .1, omega (arith, c .before .before .if1 .left)))))
+call-step-requires c κs =
+    let entry = c .before .before .before .before in
+    (entry .pre .0, (entry .pre .1 .0, (entry .pre .1 .1 .0, (entry .pre .1 .1 .1, omega (arith, c .before .before .if1 .left)))))
 
 same-length : tie.Need-same-length
 same-length c = search needs

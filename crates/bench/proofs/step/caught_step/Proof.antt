@@ -6,41 +6,78 @@ use borrow.Author.Needs.{needs}
 use Rattle.bench.proofs.step.caught_step.Statement.{statement}
 use Rattle.bench.proofs.step.caught_step.Tie as tie
 
+-- Ways back to earlier places that several answers take.
+abbrev entry-before-variables : tie.After-variables → tie.Start
+entry-before-variables c = c .before .before .before
+
+abbrev variables-before-byte-number : tie.After-byte-number → tie.After-variables
+variables-before-byte-number c = c .before .before .before .before
+
 sub-d : tie.Need-sub-d
 sub-d c = search needs
 
 head-at-requires : tie.Need-head-at-requires
-head-at-requires c κs = caught-ready (c .before .pre .0) (c .before .pre .1 .0) (c .before .pre .1 .1 .0) (c .before .pre .1 .1 .1 .1 .0) (c .before .pre .1 .1 .1 .1 .1) (c .before .pre .1 .1 .1 .1 .2)
+head-at-requires c κs =
+    let entry = c .before in
+    caught-ready (entry .pre .0) (entry .pre .1 .0) (entry .pre .1 .1 .0) (entry .pre .1 .1 .1 .1 .0) (entry .pre .1 .1 .1 .1 .1) (entry .pre .1 .1 .1 .1 .2)
 
 variables-requires : tie.Need-variables-requires
-variables-requires c κs = head-small (c .before .before .pre .0) (c .before .before .pre .1 .0) (caught-below (c .before .before .pre .0) (c .before .before .pre .1 .0) (c .before .before .pre .1 .1 .0) (c .before .before .pre .1 .1 .1 .1 .0) (c .before .before .pre .1 .1 .1 .1 .1) (c .before .before .pre .1 .1 .1 .1 .2)) (c .head-at .ensures)
+variables-requires c κs =
+    let entry = c .before .before in
+    head-small (entry .pre .0) (entry .pre .1 .0) (caught-below (entry .pre .0) (entry .pre .1 .0) (entry .pre .1 .1 .0) (entry .pre .1 .1 .1 .1 .0) (entry .pre .1 .1 .1 .1 .1) (entry .pre .1 .1 .1 .1 .2)) (c .head-at .ensures)
 
 mul-from : tie.Need-mul-from
-mul-from c = let F = frame-safe (c .before .before .before .pre .0) (c .before .before .before .pre .1 .0) (caught-below (c .before .before .before .pre .0) (c .before .before .before .pre .1 .0) (c .before .before .before .pre .1 .1 .0) (c .before .before .before .pre .1 .1 .1 .1 .0) (c .before .before .before .pre .1 .1 .1 .1 .1) (c .before .before .before .pre .1 .1 .1 .1 .2)) (c .before .head-at .ensures) (c .variables .ensures) in omega (arith, F .low)
+mul-from c =
+    let entry = entry-before-variables c in
+    let F = frame-safe (entry .pre .0) (entry .pre .1 .0) (caught-below (entry .pre .0) (entry .pre .1 .0) (entry .pre .1 .1 .0) (entry .pre .1 .1 .1 .1 .0) (entry .pre .1 .1 .1 .1 .1) (entry .pre .1 .1 .1 .1 .2)) (c .before .head-at .ensures) (c .variables .ensures) in omega (arith, F .low)
 
 add-from : tie.Need-add-from
-add-from c = let F = frame-safe (c .before .before .before .pre .0) (c .before .before .before .pre .1 .0) (caught-below (c .before .before .before .pre .0) (c .before .before .before .pre .1 .0) (c .before .before .before .pre .1 .1 .0) (c .before .before .before .pre .1 .1 .1 .1 .0) (c .before .before .before .pre .1 .1 .1 .1 .1) (c .before .before .before .pre .1 .1 .1 .1 .2)) (c .before .head-at .ensures) (c .variables .ensures) in omega (arith, F .low)
+add-from c =
+    let entry = entry-before-variables c in
+    let F = frame-safe (entry .pre .0) (entry .pre .1 .0) (caught-below (entry .pre .0) (entry .pre .1 .0) (entry .pre .1 .1 .0) (entry .pre .1 .1 .1 .1 .0) (entry .pre .1 .1 .1 .1 .1) (entry .pre .1 .1 .1 .1 .2)) (c .before .head-at .ensures) (c .variables .ensures) in omega (arith, F .low)
 
 copy-requires : tie.Need-copy-requires
-copy-requires c κs = let F = frame-safe (c .before .before .before .before .pre .0) (c .before .before .before .before .pre .1 .0) (caught-below (c .before .before .before .before .pre .0) (c .before .before .before .before .pre .1 .0) (c .before .before .before .before .pre .1 .1 .0) (c .before .before .before .before .pre .1 .1 .1 .1 .0) (c .before .before .before .before .pre .1 .1 .1 .1 .1) (c .before .before .before .before .pre .1 .1 .1 .1 .2)) (c .before .before .head-at .ensures) (c .before .variables .ensures) in (F .there, omega (arith, F .few, F .long))
+copy-requires c κs =
+    let entry = c .before .before .before .before in
+    let F = frame-safe (entry .pre .0) (entry .pre .1 .0) (caught-below (entry .pre .0) (entry .pre .1 .0) (entry .pre .1 .1 .0) (entry .pre .1 .1 .1 .1 .0) (entry .pre .1 .1 .1 .1 .1) (entry .pre .1 .1 .1 .1 .2)) (c .before .before .head-at .ensures) (c .before .variables .ensures) in (F .there, omega (arith, F .few, F .long))
 
 mul-i : tie.Need-mul-i
-mul-i c = let F = frame-safe (c .before .before .before .before .before .pre .0) (c .before .before .before .before .before .pre .1 .0) (caught-below (c .before .before .before .before .before .pre .0) (c .before .before .before .before .before .pre .1 .0) (c .before .before .before .before .before .pre .1 .1 .0) (c .before .before .before .before .before .pre .1 .1 .1 .1 .0) (c .before .before .before .before .before .pre .1 .1 .1 .1 .1) (c .before .before .before .before .before .pre .1 .1 .1 .1 .2)) (c .before .before .before .head-at .ensures) (c .before .before .variables .ensures) in omega (arith, F .table)
+mul-i c =
+    let at-before = c .before .before in
+    let at-head-at = at-before .before in
+    let entry = at-head-at .before .before in
+    let F = frame-safe (entry .pre .0) (entry .pre .1 .0) (caught-below (entry .pre .0) (entry .pre .1 .0) (entry .pre .1 .1 .0) (entry .pre .1 .1 .1 .1 .0) (entry .pre .1 .1 .1 .1 .1) (entry .pre .1 .1 .1 .1 .2)) (at-head-at .head-at .ensures) (at-before .variables .ensures) in omega (arith, F .table)
 
 add-i : tie.Need-add-i
-add-i c = let F = frame-safe (c .before .before .before .before .before .pre .0) (c .before .before .before .before .before .pre .1 .0) (caught-below (c .before .before .before .before .before .pre .0) (c .before .before .before .before .before .pre .1 .0) (c .before .before .before .before .before .pre .1 .1 .0) (c .before .before .before .before .before .pre .1 .1 .1 .1 .0) (c .before .before .before .before .before .pre .1 .1 .1 .1 .1) (c .before .before .before .before .before .pre .1 .1 .1 .1 .2)) (c .before .before .before .head-at .ensures) (c .before .before .variables .ensures) in omega (arith, F .table)
+add-i c =
+    let at-before = c .before .before in
+    let at-head-at = at-before .before in
+    let entry = at-head-at .before .before in
+    let F = frame-safe (entry .pre .0) (entry .pre .1 .0) (caught-below (entry .pre .0) (entry .pre .1 .0) (entry .pre .1 .1 .0) (entry .pre .1 .1 .1 .1 .0) (entry .pre .1 .1 .1 .1 .1) (entry .pre .1 .1 .1 .1 .2)) (at-head-at .head-at .ensures) (at-before .variables .ensures) in omega (arith, F .table)
 
 element-copy-out-byte-number : tie.Need-element-copy-out-byte-number
-element-copy-out-byte-number c = let F = frame-safe (c .before .before .before .before .before .pre .0) (c .before .before .before .before .before .pre .1 .0) (caught-below (c .before .before .before .before .before .pre .0) (c .before .before .before .before .before .pre .1 .0) (c .before .before .before .before .before .pre .1 .1 .0) (c .before .before .before .before .before .pre .1 .1 .1 .1 .0) (c .before .before .before .before .before .pre .1 .1 .1 .1 .1) (c .before .before .before .before .before .pre .1 .1 .1 .1 .2)) (c .before .before .before .head-at .ensures) (c .before .before .variables .ensures) in F .table
+element-copy-out-byte-number c =
+    let at-before = c .before .before in
+    let at-head-at = at-before .before in
+    let entry = at-head-at .before .before in
+    let F = frame-safe (entry .pre .0) (entry .pre .1 .0) (caught-below (entry .pre .0) (entry .pre .1 .0) (entry .pre .1 .1 .0) (entry .pre .1 .1 .1 .1 .0) (entry .pre .1 .1 .1 .1 .1) (entry .pre .1 .1 .1 .1 .2)) (at-head-at .head-at .ensures) (at-before .variables .ensures) in F .table
 
 byte-number-requires : tie.Need-byte-number-requires
 byte-number-requires c κs = search needs
 
 mul-offset-number : tie.Need-mul-offset-number
-mul-offset-number c = let F = frame-safe (c .before .before .before .before .before .before .before .pre .0) (c .before .before .before .before .before .before .before .pre .1 .0) (caught-below (c .before .before .before .before .before .before .before .pre .0) (c .before .before .before .before .before .before .before .pre .1 .0) (c .before .before .before .before .before .before .before .pre .1 .1 .0) (c .before .before .before .before .before .before .before .pre .1 .1 .1 .1 .0) (c .before .before .before .before .before .before .before .pre .1 .1 .1 .1 .1) (c .before .before .before .before .before .before .before .pre .1 .1 .1 .1 .2)) (c .before .before .before .before .before .head-at .ensures) (c .before .before .before .before .variables .ensures) in omega (arith, F .table)
+mul-offset-number c =
+    let at-variables = variables-before-byte-number c in
+    let at-head-at = at-variables .before in
+    let entry = at-head-at .before .before in
+    let F = frame-safe (entry .pre .0) (entry .pre .1 .0) (caught-below (entry .pre .0) (entry .pre .1 .0) (entry .pre .1 .1 .0) (entry .pre .1 .1 .1 .1 .0) (entry .pre .1 .1 .1 .1 .1) (entry .pre .1 .1 .1 .1 .2)) (at-head-at .head-at .ensures) (at-variables .variables .ensures) in omega (arith, F .table)
 
 element-copy-out-offset-number : tie.Need-element-copy-out-offset-number
-element-copy-out-offset-number c = let F = frame-safe (c .before .before .before .before .before .before .before .pre .0) (c .before .before .before .before .before .before .before .pre .1 .0) (caught-below (c .before .before .before .before .before .before .before .pre .0) (c .before .before .before .before .before .before .before .pre .1 .0) (c .before .before .before .before .before .before .before .pre .1 .1 .0) (c .before .before .before .before .before .before .before .pre .1 .1 .1 .1 .0) (c .before .before .before .before .before .before .before .pre .1 .1 .1 .1 .1) (c .before .before .before .before .before .before .before .pre .1 .1 .1 .1 .2)) (c .before .before .before .before .before .head-at .ensures) (c .before .before .before .before .variables .ensures) in F .table
+element-copy-out-offset-number c =
+    let at-variables = variables-before-byte-number c in
+    let at-head-at = at-variables .before in
+    let entry = at-head-at .before .before in
+    let F = frame-safe (entry .pre .0) (entry .pre .1 .0) (caught-below (entry .pre .0) (entry .pre .1 .0) (entry .pre .1 .1 .0) (entry .pre .1 .1 .1 .1 .0) (entry .pre .1 .1 .1 .1 .1) (entry .pre .1 .1 .1 .1 .2)) (at-head-at .head-at .ensures) (at-variables .variables .ensures) in F .table
 
 offset-number-requires : tie.Need-offset-number-requires
 offset-number-requires c κs = search needs
@@ -49,7 +86,13 @@ add-extras : tie.Need-add-extras
 add-extras c = search needs
 
 returns : tie.Need-returns
-returns c = caught-done (c .before .before .before .before .before .before .before .before .before .before .pre .0) (c .before .before .before .before .before .before .before .before .before .before .pre .1 .0) (c .before .before .before .before .before .before .before .before .before .before .pre .1 .1 .0) (c .before .before .before .before .before .before .before .before .before .before .pre .1 .1 .1 .1 .0) (c .before .before .before .before .before .before .before .before .before .before .pre .1 .1 .1 .1 .1) (c .before .before .before .before .before .before .before .before .before .before .pre .1 .1 .1 .1 .2) (c .before .before .before .before .before .before .before .before .head-at .ensures) (c .before .before .before .before .before .before .before .variables .ensures) (c .before .before .before .before .before .copy .ensures) (c .before .before .before .byte-number .ensures .0) (c .before .offset-number .ensures) refl
+returns c =
+    let at-byte-number = c .before .before .before in
+    let at-copy = at-byte-number .before .before in
+    let at-variables = at-copy .before .before in
+    let at-head-at = at-variables .before in
+    let entry = at-head-at .before .before in
+    caught-done (entry .pre .0) (entry .pre .1 .0) (entry .pre .1 .1 .0) (entry .pre .1 .1 .1 .1 .0) (entry .pre .1 .1 .1 .1 .1) (entry .pre .1 .1 .1 .1 .2) (at-head-at .head-at .ensures) (at-variables .variables .ensures) (at-copy .copy .ensures) (at-byte-number .byte-number .ensures .0) (c .before .offset-number .ensures) refl
 
 pub caught-step-spec : {M : Type 1} → statement M
 caught-step-spec =

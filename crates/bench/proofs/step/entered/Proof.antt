@@ -26,7 +26,9 @@ offset-number-requires : tie.Need-offset-number-requires
 offset-number-requires c κs = search needs
 
 returns : tie.Need-returns
-returns c = λ i. record { function = c .before .before .before .before .args .r .function; handler = (c .before .before .byte-number .ensures .0) i; at = (c .offset-number .ensures) i; waiting = c .before .before .before .before .args .r .waiting; extras = c .before .before .before .before .args .k }
+returns c =
+    let entry = c .before .before .before .before in
+    λ i. record { function = entry .args .r .function; handler = (c .before .before .byte-number .ensures .0) i; at = (c .offset-number .ensures) i; waiting = entry .args .r .waiting; extras = entry .args .k }
 
 pub entered-spec : {M : Type 1} → statement M
 entered-spec =

@@ -4,10 +4,14 @@ use Rattle.bench.proofs.step.goto_step.Statement.{statement}
 use Rattle.bench.proofs.step.goto_step.Tie as tie
 
 entered-requires : tie.Need-entered-requires
-entered-requires c κs = goto-safe (c .before .pre .0) (c .before .pre .1 .0) (c .before .pre .1 .1)
+entered-requires c κs =
+    let entry = c .before in
+    goto-safe (entry .pre .0) (entry .pre .1 .0) (entry .pre .1 .1)
 
 returns : tie.Need-returns
-returns c = goto-done (c .before .before .pre .0) (c .before .before .pre .1 .0) (c .before .before .pre .1 .1) (c .entered .ensures)
+returns c =
+    let entry = c .before .before in
+    goto-done (entry .pre .0) (entry .pre .1 .0) (entry .pre .1 .1) (c .entered .ensures)
 
 pub goto-step-spec : {M : Type 1} → statement M
 goto-step-spec = tie.close (tie.spec entered-requires returns)

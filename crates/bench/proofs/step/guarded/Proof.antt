@@ -21,19 +21,32 @@ sub-d : tie.Need-sub-d Inv-loop μ-loop
 sub-d c = omega arith
 
 head-at-requires : tie.Need-head-at-requires Inv-loop μ-loop
-head-at-requires c κs = search-ready (c .before .before .before .pre) (omega arith) (c .before .loop .inv .0)
+head-at-requires c κs =
+    let entry = c .before .before .before in
+    search-ready (entry .pre) (omega arith) (c .before .loop .inv .0)
 
 returns : tie.Need-returns Inv-loop μ-loop
-returns c = search-found (c .before .before .before .before .before .before .args .file .now) (c .before .before .before .before .before .before .args .words .now) (c .before .before .before .before .loop .w) (c .before .before .head-at .result) (omega arith) (c .before .before .head-at .ensures) (c .if1 .taken) ∙ c .before .before .before .before .loop .inv .1
+returns c =
+    let at-head-at = c .before .before in
+    let at-loop = at-head-at .before .before in
+    let entry = at-loop .before .before in
+    search-found (entry .args .file .now) (entry .args .words .now) (at-loop .loop .w) (at-head-at .head-at .result) (omega arith) (at-head-at .head-at .ensures) (c .if1 .taken) ∙ at-loop .loop .inv .1
 
 loop-less : tie.Need-loop-less Inv-loop μ-loop
 loop-less c = omega arith
 
 loop-again : tie.Need-loop-again Inv-loop μ-loop
-loop-again c = (omega arith, search-on (c .before .before .before .before .before .before .args .file .now) (c .before .before .before .before .before .before .args .words .now) (c .before .before .before .before .loop .w) (c .before .before .head-at .result) (omega arith) (c .before .before .head-at .ensures) (c .if1 .left) ∙ c .before .before .before .before .loop .inv .1)
+loop-again c =
+    let at-head-at = c .before .before in
+    let at-loop = at-head-at .before .before in
+    let entry = at-loop .before .before in
+    (omega arith, search-on (entry .args .file .now) (entry .args .words .now) (at-loop .loop .w) (at-head-at .head-at .result) (omega arith) (at-head-at .head-at .ensures) (c .if1 .left) ∙ at-loop .loop .inv .1)
 
 returns-2 : tie.Need-returns-2 Inv-loop μ-loop
-returns-2 c = search-ends (c .before .before .before .args .file .now) (c .before .before .before .args .words .now) (c .before .loop .w) (omega arith) ∙ c .before .loop .inv .1
+returns-2 c =
+    let at-loop = c .before in
+    let entry = at-loop .before .before in
+    search-ends (entry .args .file .now) (entry .args .words .now) (at-loop .loop .w) (omega arith) ∙ at-loop .loop .inv .1
 
 pub guarded-spec : {M : Type 1} → statement M
 guarded-spec =

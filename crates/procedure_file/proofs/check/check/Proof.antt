@@ -19,13 +19,28 @@ enum-told : tie.Need-enum-told
 enum-told c = search needs
 
 names-checked-requires : tie.Need-names-checked-requires
-names-checked-requires c κs = check-laid (c .before .before .before .before .before .args .file .now) (c .before .before .before .if1 .left) (λ i. omega (arith, c .before .before .before .before .shared-slice-known .given i)) _ (sym (c .before .before .layout-end .ensures) ∙ c .enum-told .given .1)
+names-checked-requires c κs =
+    let at-before = c .before .before in
+    let at-if1 = at-before .before in
+    let at-shared-slice-known = at-if1 .before in
+    let entry = at-shared-slice-known .before in
+    check-laid (entry .args .file .now) (at-if1 .if1 .left) (λ i. omega (arith, at-shared-slice-known .shared-slice-known .given i)) _ (sym (at-before .layout-end .ensures) ∙ c .enum-told .given .1)
 
 returns-2 : tie.Need-returns-2
-returns-2 c = check-stopped (c .before .before .before .before .before .before .args .file .now) (c .before .before .before .before .if1 .left) (c .before .r .given .0 .0) (sym (c .before .before .before .layout-end .ensures) ∙ c .before .r .given .1)
+returns-2 c =
+    let at-r = c .before in
+    let at-layout-end = at-r .before .before in
+    let at-if1 = at-layout-end .before in
+    let entry = at-if1 .before .before in
+    check-stopped (entry .args .file .now) (at-if1 .if1 .left) (at-r .r .given .0 .0) (sym (at-layout-end .layout-end .ensures) ∙ at-r .r .given .1)
 
 returns-3 : tie.Need-returns-3
-returns-3 c = c .names-checked .ensures ∙ check-named (c .before .before .before .before .before .before .args .file .now) (c .before .before .before .before .if1 .left) (λ i. omega (arith, c .before .before .before .before .before .shared-slice-known .given i)) _ (sym (c .before .before .before .layout-end .ensures) ∙ c .before .enum-told .given .1)
+returns-3 c =
+    let at-layout-end = c .before .before .before in
+    let at-if1 = at-layout-end .before in
+    let at-shared-slice-known = at-if1 .before in
+    let entry = at-shared-slice-known .before in
+    c .names-checked .ensures ∙ check-named (entry .args .file .now) (at-if1 .if1 .left) (λ i. omega (arith, at-shared-slice-known .shared-slice-known .given i)) _ (sym (at-layout-end .layout-end .ensures) ∙ c .before .enum-told .given .1)
 
 pub check-spec : {M : Type 1} → statement M
 check-spec =

@@ -7,13 +7,17 @@ sub-place : tie.Need-sub-place
 sub-place c = search needs
 
 returns : tie.Need-returns
-returns c = rw (lt-leb (c .before .before .before .args .handler) (c .before .before .before .args .labels) (c .if1 .taken))
+returns c =
+    let entry = c .before .before .before in
+    rw (lt-leb (entry .args .handler) (entry .args .labels) (c .if1 .taken))
 
 block-named-requires : tie.Need-block-named-requires
 block-named-requires c κs = search needs
 
 returns-2 : tie.Need-returns-2
-returns-2 c = rw (le-leb (c .before .before .before .before .args .handler) (c .before .before .before .before .args .labels) (c .before .if1 .left)) (c .block-named .ensures)
+returns-2 c =
+    let entry = c .before .before .before .before in
+    rw (le-leb (entry .args .handler) (entry .args .labels) (c .before .if1 .left)) (c .block-named .ensures)
 
 pub labelled-named-spec : {M : Type 1} → statement M
 labelled-named-spec = tie.close (tie.spec sub-place returns block-named-requires returns-2)

@@ -8,6 +8,10 @@ use borrow.Author.Needs.{needs}
 use Rattle.procedure_file.proofs.check.names_checked.Statement.{statement}
 use Rattle.procedure_file.proofs.check.names_checked.Tie as tie
 
+-- Ways back to earlier places that several answers take.
+abbrev entry-before-fill : tie.After-fill → tie.Start
+entry-before-fill c = c .before .before .before .before .before .before .before
+
 slice-aggregate-fill : tie.Need-slice-aggregate-fill
 slice-aggregate-fill c = search needs
 
@@ -36,7 +40,10 @@ array-share-prefix-params : tie.Need-array-share-prefix-params
 array-share-prefix-params c = search needs
 
 slice-aggregate-file-named-3 : tie.Need-slice-aggregate-file-named-3
-slice-aggregate-file-named-3 c = sym (length-take-le _ _ (omega (arith, c .before .before .before .before .before .before .before .before .fill .ensures .countIs, c .before .before .before .before .before .before .before .before .before .before .before .before .before .before .before .pre .reads .most, c .before .before .before .before .before .before .before .before .fill .kept .1 .1 .1 .0)))
+slice-aggregate-file-named-3 c =
+    let at-fill = c .before .before .before .before .before .before .before .before in
+    let entry = entry-before-fill at-fill in
+    sym (length-take-le _ _ (omega (arith, at-fill .fill .ensures .countIs, entry .pre .reads .most, at-fill .fill .kept .1 .1 .1 .0)))
 
 slice-aggregate-file-named-4 : tie.Need-slice-aggregate-file-named-4
 slice-aggregate-file-named-4 c = search needs
@@ -45,7 +52,10 @@ slice-aggregate-file-named-5 : tie.Need-slice-aggregate-file-named-5
 slice-aggregate-file-named-5 c = search needs
 
 file-named-requires : tie.Need-file-named-requires
-file-named-requires c κs = naming-given (c .before .before .before .before .before .before .before .before .before .before .before .before .before .before .before .before .before .args .file .now) _ _ _ _ _ _ (c .before .before .before .before .before .before .before .before .before .before .before .before .before .before .before .before .before .pre) (c .before .before .before .before .before .before .before .before .before .before .fill .ensures) (c .before .before .before .before .before .before .before .before .before .before .fill .kept .1 .0 ∙ length-replicate {A = ℕ} 2048 0) (c .before .before .before .before .before .before .before .before .before .before .fill .kept .1 .1 .0 ∙ length-replicate {A = ℕ} 2048 0) (c .before .before .before .before .before .before .before .before .before .before .fill .kept .1 .1 .1 .0) (c .before .before .before .before .before .before .before .before .before .before .fill .kept .1 .1 .1 .1 .0) (c .before .before .before .before .before .before .before .before .before .before .fill .kept .1 .1 .1 .1 .1 .0)
+file-named-requires c κs =
+    let at-fill = c .before .before .before .before .before .before .before .before .before .before in
+    let entry = entry-before-fill at-fill in
+    naming-given (entry .args .file .now) _ _ _ _ _ _ (entry .pre) (at-fill .fill .ensures) (at-fill .fill .kept .1 .0 ∙ length-replicate {A = ℕ} 2048 0) (at-fill .fill .kept .1 .1 .0 ∙ length-replicate {A = ℕ} 2048 0) (at-fill .fill .kept .1 .1 .1 .0) (at-fill .fill .kept .1 .1 .1 .1 .0) (at-fill .fill .kept .1 .1 .1 .1 .1 .0)
 
 returns : tie.Need-returns
 returns c = search needs

@@ -5,6 +5,10 @@ use borrow.Author.Needs.{needs}
 use Rattle.procedure_file.proofs.lookup.block.Statement.{statement}
 use Rattle.procedure_file.proofs.lookup.block.Tie as tie
 
+-- Ways back to earlier places that several answers take.
+abbrev place-of-before-known-told : tie.After-known-told → tie.After-place-of
+place-of-before-known-told c = c .before .before .before
+
 place-of-requires : tie.Need-place-of-requires
 place-of-requires c κs = search needs
 
@@ -12,13 +16,25 @@ enum-known-from : tie.Need-enum-known-from
 enum-known-from c = search needs
 
 sub-result : tie.Need-sub-result
-sub-result c = (stretch-some (c .before .before .before .before .before .args .file .now) (c .before .before .before .before .before .args .f) (c .before .before .before .before .before .args .label) (λ i. omega (arith, c .before .before .before .before .shared-slice-known .given i)) _ _ (sym (c .before .before .before .place-of .ensures) ∙ c .before .from .given .1)) .order
+sub-result c =
+    let at-place-of = place-of-before-known-told c in
+    let at-shared-slice-known = at-place-of .before in
+    let entry = at-shared-slice-known .before in
+    (stretch-some (entry .args .file .now) (entry .args .f) (entry .args .label) (λ i. omega (arith, at-shared-slice-known .shared-slice-known .given i)) _ _ (sym (at-place-of .place-of .ensures) ∙ c .before .from .given .1)) .order
 
 part-result-start : tie.Need-part-result-start
-part-result-start c = (stretch-some (c .before .before .before .before .before .args .file .now) (c .before .before .before .before .before .args .f) (c .before .before .before .before .before .args .label) (λ i. omega (arith, c .before .before .before .before .shared-slice-known .given i)) _ _ (sym (c .before .before .before .place-of .ensures) ∙ c .before .from .given .1)) .order
+part-result-start c =
+    let at-place-of = place-of-before-known-told c in
+    let at-shared-slice-known = at-place-of .before in
+    let entry = at-shared-slice-known .before in
+    (stretch-some (entry .args .file .now) (entry .args .f) (entry .args .label) (λ i. omega (arith, at-shared-slice-known .shared-slice-known .given i)) _ _ (sym (at-place-of .place-of .ensures) ∙ c .before .from .given .1)) .order
 
 part-result-end : tie.Need-part-result-end
-part-result-end c = (stretch-some (c .before .before .before .before .before .args .file .now) (c .before .before .before .before .before .args .f) (c .before .before .before .before .before .args .label) (λ i. omega (arith, c .before .before .before .before .shared-slice-known .given i)) _ _ (sym (c .before .before .before .place-of .ensures) ∙ c .before .from .given .1)) .inside
+part-result-end c =
+    let at-place-of = place-of-before-known-told c in
+    let at-shared-slice-known = at-place-of .before in
+    let entry = at-shared-slice-known .before in
+    (stretch-some (entry .args .file .now) (entry .args .f) (entry .args .label) (λ i. omega (arith, at-shared-slice-known .shared-slice-known .given i)) _ _ (sym (at-place-of .place-of .ensures) ∙ c .before .from .given .1)) .inside
 
 enum-told : tie.Need-enum-told
 enum-told c = search needs
@@ -33,10 +49,17 @@ part-result-end-2 : tie.Need-part-result-end-2
 part-result-end-2 c = search needs
 
 returns : tie.Need-returns
-returns c = (stretch-some (c .before .before .before .before .before .before .args .file .now) (c .before .before .before .before .before .before .args .f) (c .before .before .before .before .before .before .args .label) (λ i. omega (arith, c .before .before .before .before .before .shared-slice-known .given i)) _ _ (sym (c .before .before .before .before .place-of .ensures) ∙ c .before .before .from .given .1)) .bytes
+returns c =
+    let at-place-of = c .before .before .before .before in
+    let at-shared-slice-known = at-place-of .before in
+    let entry = at-shared-slice-known .before in
+    (stretch-some (entry .args .file .now) (entry .args .f) (entry .args .label) (λ i. omega (arith, at-shared-slice-known .shared-slice-known .given i)) _ _ (sym (at-place-of .place-of .ensures) ∙ c .before .before .from .given .1)) .bytes
 
 returns-2 : tie.Need-returns-2
-returns-2 c = stretch-none (c .before .before .before .before .before .args .file .now) (c .before .before .before .before .before .args .f) (c .before .before .before .before .before .args .label) _ (sym (c .before .before .before .place-of .ensures) ∙ c .before .enum-told .given .1)
+returns-2 c =
+    let at-place-of = c .before .before .before in
+    let entry = at-place-of .before .before in
+    stretch-none (entry .args .file .now) (entry .args .f) (entry .args .label) _ (sym (at-place-of .place-of .ensures) ∙ c .before .enum-told .given .1)
 
 pub block-spec : {M : Type 1} → statement M
 block-spec =

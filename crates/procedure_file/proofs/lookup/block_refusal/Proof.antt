@@ -14,10 +14,15 @@ enum-known-r : tie.Need-enum-known-r
 enum-known-r c = search needs
 
 returns : tie.Need-returns
-returns c = lookup-some (c .before .before .before .before .args .file .now) (c .before .before .before .before .args .f) (c .before .before .before .before .args .label) _ _ (sym (c .before .before .place-of .ensures) ∙ c .enum-told .given .1)
+returns c =
+    let entry = c .before .before .before .before in
+    lookup-some (entry .args .file .now) (entry .args .f) (entry .args .label) _ _ (sym (c .before .before .place-of .ensures) ∙ c .enum-told .given .1)
 
 returns-2 : tie.Need-returns-2
-returns-2 c = lookup-none (c .before .before .before .before .before .args .file .now) (c .before .before .before .before .before .args .f) (c .before .before .before .before .before .args .label) _ (sym (c .before .before .before .place-of .ensures) ∙ c .before .r .given .1)
+returns-2 c =
+    let at-place-of = c .before .before .before in
+    let entry = at-place-of .before .before in
+    lookup-none (entry .args .file .now) (entry .args .f) (entry .args .label) _ (sym (at-place-of .place-of .ensures) ∙ c .before .r .given .1)
 
 pub block-refusal-spec : {M : Type 1} → statement M
 block-refusal-spec =

@@ -31,7 +31,10 @@ slice-aggregate-find-in-2 : tie.Need-slice-aggregate-find-in-2
 slice-aggregate-find-in-2 c = search needs
 
 find-in-requires : tie.Need-find-in-requires
-find-in-requires c κs = finding-given (c .before .before .before .before .before .before .before .before .before .before .before .before .before .before .args .file .now) _ _ _ _ _ _ (c .before .before .before .before .before .before .before .before .before .before .before .before .before .before .pre) (c .before .before .before .before .before .before .before .fill .ensures) (c .before .before .before .before .before .before .before .fill .kept .1 .0 ∙ length-replicate {A = ℕ} 2048 0) (c .before .before .before .before .before .before .before .fill .kept .1 .1 .1 .1 .1 .0)
+find-in-requires c κs =
+    let at-fill = c .before .before .before .before .before .before .before in
+    let entry = at-fill .before .before .before .before .before .before .before in
+    finding-given (entry .args .file .now) _ _ _ _ _ _ (entry .pre) (at-fill .fill .ensures) (at-fill .fill .kept .1 .0 ∙ length-replicate {A = ℕ} 2048 0) (at-fill .fill .kept .1 .1 .1 .1 .1 .0)
 
 returns : tie.Need-returns
 returns c = search needs

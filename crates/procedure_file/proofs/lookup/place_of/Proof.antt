@@ -15,13 +15,25 @@ enum-told : tie.Need-enum-told
 enum-told c = search needs
 
 find-requires : tie.Need-find-requires
-find-requires c κs = (accepted-laid (c .before .before .before .before .args .file .now) (λ i. omega (arith, c .before .before .before .shared-slice-known .given i)) _ (c .before .before .check .ensures) (c .enum-told .given .1)) .0
+find-requires c κs =
+    let at-before = c .before .before in
+    let at-shared-slice-known = at-before .before in
+    let entry = at-shared-slice-known .before in
+    (accepted-laid (entry .args .file .now) (λ i. omega (arith, at-shared-slice-known .shared-slice-known .given i)) _ (at-before .check .ensures) (c .enum-told .given .1)) .0
 
 returns : tie.Need-returns
-returns c = place-refused (c .before .before .before .before .before .args .file .now) (c .before .before .before .before .before .args .f) (c .before .before .before .before .before .args .label) _ (c .before .r .given .0 .0) (c .before .before .before .check .ensures) (c .before .r .given .1)
+returns c =
+    let at-r = c .before in
+    let at-check = at-r .before .before in
+    let entry = at-check .before .before in
+    place-refused (entry .args .file .now) (entry .args .f) (entry .args .label) _ (at-r .r .given .0 .0) (at-check .check .ensures) (at-r .r .given .1)
 
 returns-2 : tie.Need-returns-2
-returns-2 c = c .find .ensures ∙ place-found (c .before .before .before .before .before .args .file .now) (c .before .before .before .before .before .args .f) (c .before .before .before .before .before .args .label) ((accepted-laid (c .before .before .before .before .before .args .file .now) (λ i. omega (arith, c .before .before .before .before .shared-slice-known .given i)) _ (c .before .before .before .check .ensures) (c .before .enum-told .given .1)) .1)
+returns-2 c =
+    let at-check = c .before .before .before in
+    let at-shared-slice-known = at-check .before in
+    let entry = at-shared-slice-known .before in
+    c .find .ensures ∙ place-found (entry .args .file .now) (entry .args .f) (entry .args .label) ((accepted-laid (entry .args .file .now) (λ i. omega (arith, at-shared-slice-known .shared-slice-known .given i)) _ (at-check .check .ensures) (c .before .enum-told .given .1)) .1)
 
 pub place-of-spec : {M : Type 1} → statement M
 place-of-spec =

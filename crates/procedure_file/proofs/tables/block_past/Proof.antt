@@ -15,10 +15,15 @@ enum-told : tie.Need-enum-told
 enum-told c = search needs
 
 returns : tie.Need-returns
-returns c = end-past (block (c .before .before .before .before .before .args .file .now) (c .before .before .before .before .before .args .at)) _ (sym (c .before .before .before .block-end .ensures) ∙ c .before .next .given .1)
+returns c =
+    let at-block-end = c .before .before .before in
+    let entry = at-block-end .before .before in
+    end-past (block (entry .args .file .now) (entry .args .at)) _ (sym (at-block-end .block-end .ensures) ∙ c .before .next .given .1)
 
 returns-2 : tie.Need-returns-2
-returns-2 c = end-stopped (block (c .before .before .before .before .args .file .now) (c .before .before .before .before .args .at)) _ (sym (c .before .before .block-end .ensures) ∙ c .enum-told .given .1)
+returns-2 c =
+    let entry = c .before .before .before .before in
+    end-stopped (block (entry .args .file .now) (entry .args .at)) _ (sym (c .before .before .block-end .ensures) ∙ c .enum-told .given .1)
 
 pub block-past-spec : {M : Type 1} → statement M
 block-past-spec =

@@ -20,19 +20,29 @@ add-next : tie.Need-add-next
 add-next c = omega (arith, branch-room (c .args .file .now) (c .args .at) (c .pre))
 
 shared-slice-read-t9 : tie.Need-shared-slice-read-t9
-shared-slice-read-t9 c = omega (arith, branch-room (c .before .args .file .now) (c .before .args .at) (c .before .pre))
+shared-slice-read-t9 c =
+    let entry = c .before in
+    omega (arith, branch-room (entry .args .file .now) (entry .args .at) (entry .pre))
 
 shared-slice-read-t11 : tie.Need-shared-slice-read-t11
-shared-slice-read-t11 c = omega (arith, branch-room (c .before .before .args .file .now) (c .before .before .args .at) (c .before .before .pre))
+shared-slice-read-t11 c =
+    let entry = c .before .before in
+    omega (arith, branch-room (entry .args .file .now) (entry .args .at) (entry .pre))
 
 shared-slice-read-t13 : tie.Need-shared-slice-read-t13
-shared-slice-read-t13 c = omega (arith, branch-room (c .before .before .before .args .file .now) (c .before .before .before .args .at) (c .before .before .before .pre))
+shared-slice-read-t13 c =
+    let entry = c .before .before .before in
+    omega (arith, branch-room (entry .args .file .now) (entry .args .at) (entry .pre))
 
 shared-slice-read-t15 : tie.Need-shared-slice-read-t15
-shared-slice-read-t15 c = omega (arith, branch-room (c .before .before .before .before .args .file .now) (c .before .before .before .before .args .at) (c .before .before .before .before .pre))
+shared-slice-read-t15 c =
+    let entry = c .before .before .before .before in
+    omega (arith, branch-room (entry .args .file .now) (entry .args .at) (entry .pre))
 
 returns : tie.Need-returns
-returns c = branch-form (c .before .before .before .before .args .file .now) (c .before .before .before .before .args .at) (c .before .before .before .before .pre)
+returns c =
+    let entry = c .before .before .before .before in
+    branch-form (entry .args .file .now) (entry .args .at) (entry .pre)
 
 pub branch-form-spec : {M : Type 1} → statement M
 branch-form-spec =

@@ -17,22 +17,34 @@ add-arguments : tie.Need-add-arguments
 add-arguments c = omega (arith, call-room (c .args .file .now) (c .args .at) (c .pre))
 
 shared-slice-read-count : tie.Need-shared-slice-read-count
-shared-slice-read-count c = omega (arith, call-room (c .before .args .file .now) (c .before .args .at) (c .before .pre))
+shared-slice-read-count c =
+    let entry = c .before in
+    omega (arith, call-room (entry .args .file .now) (entry .args .at) (entry .pre))
 
 cast-next : tie.Need-cast-next
-cast-next c = omega (arith, call-room (c .before .args .file .now) (c .before .args .at) (c .before .pre))
+cast-next c =
+    let entry = c .before in
+    omega (arith, call-room (entry .args .file .now) (entry .args .at) (entry .pre))
 
 add-next : tie.Need-add-next
-add-next c = omega (arith, call-room (c .before .args .file .now) (c .before .args .at) (c .before .pre))
+add-next c =
+    let entry = c .before in
+    omega (arith, call-room (entry .args .file .now) (entry .args .at) (entry .pre))
 
 shared-slice-read-t10 : tie.Need-shared-slice-read-t10
-shared-slice-read-t10 c = omega (arith, call-room (c .before .before .args .file .now) (c .before .before .args .at) (c .before .before .pre))
+shared-slice-read-t10 c =
+    let entry = c .before .before in
+    omega (arith, call-room (entry .args .file .now) (entry .args .at) (entry .pre))
 
 shared-slice-read-t14 : tie.Need-shared-slice-read-t14
-shared-slice-read-t14 c = omega (arith, call-room (c .before .before .before .args .file .now) (c .before .before .before .args .at) (c .before .before .before .pre))
+shared-slice-read-t14 c =
+    let entry = c .before .before .before in
+    omega (arith, call-room (entry .args .file .now) (entry .args .at) (entry .pre))
 
 returns : tie.Need-returns
-returns c = call-form (c .before .before .before .args .file .now) (c .before .before .before .args .at) (c .before .before .before .pre)
+returns c =
+    let entry = c .before .before .before in
+    call-form (entry .args .file .now) (entry .args .at) (entry .pre)
 
 pub call-form-spec : {M : Type 1} → statement M
 call-form-spec =

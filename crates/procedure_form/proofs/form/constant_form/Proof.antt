@@ -11,43 +11,68 @@ use Rattle.procedure_form.proofs.form.constant_form.Statement.{statemen
 use Rattle.procedure_form.proofs.form.constant_form.Tie as tie
 
 add-x : tie.Need-add-x
-add-x c = omega (arith, constant-room (c .before .args .file .now) (c .before .args .at) (c .before .pre))
+add-x c =
+    let entry = c .before in
+    omega (arith, constant-room (entry .args .file .now) (entry .args .at) (entry .pre))
 
 add-i : tie.Need-add-i
-add-i c = omega (arith, constant-room (c .before .args .file .now) (c .before .args .at) (c .before .pre))
+add-i c =
+    let entry = c .before in
+    omega (arith, constant-room (entry .args .file .now) (entry .args .at) (entry .pre))
 
 add-next : tie.Need-add-next
-add-next c = omega (arith, constant-room (c .before .args .file .now) (c .before .args .at) (c .before .pre))
+add-next c =
+    let entry = c .before in
+    omega (arith, constant-room (entry .args .file .now) (entry .args .at) (entry .pre))
 
 shared-slice-read-value : tie.Need-shared-slice-read-value
-shared-slice-read-value c = omega (arith, constant-room (c .before .before .args .file .now) (c .before .before .args .at) (c .before .before .pre))
+shared-slice-read-value c =
+    let entry = c .before .before in
+    omega (arith, constant-room (entry .args .file .now) (entry .args .at) (entry .pre))
 
 add-value : tie.Need-add-value
-add-value c = omega (arith, constant-room (c .before .before .args .file .now) (c .before .before .args .at) (c .before .before .pre))
+add-value c =
+    let entry = c .before .before in
+    omega (arith, constant-room (entry .args .file .now) (entry .args .at) (entry .pre))
 
 shared-slice-read-value-2 : tie.Need-shared-slice-read-value-2
-shared-slice-read-value-2 c = omega (arith, constant-room (c .before .before .before .args .file .now) (c .before .before .before .args .at) (c .before .before .before .pre))
+shared-slice-read-value-2 c =
+    let entry = c .before .before .before in
+    omega (arith, constant-room (entry .args .file .now) (entry .args .at) (entry .pre))
 
 add-value-2 : tie.Need-add-value-2
-add-value-2 c = omega (arith, constant-room (c .before .before .before .args .file .now) (c .before .before .before .args .at) (c .before .before .before .pre))
+add-value-2 c =
+    let entry = c .before .before .before in
+    omega (arith, constant-room (entry .args .file .now) (entry .args .at) (entry .pre))
 
 shared-slice-read-value-3 : tie.Need-shared-slice-read-value-3
-shared-slice-read-value-3 c = omega (arith, constant-room (c .before .before .before .before .args .file .now) (c .before .before .before .before .args .at) (c .before .before .before .before .pre))
+shared-slice-read-value-3 c =
+    let entry = c .before .before .before .before in
+    omega (arith, constant-room (entry .args .file .now) (entry .args .at) (entry .pre))
 
 add-value-3 : tie.Need-add-value-3
-add-value-3 c = omega (arith, constant-room (c .before .before .before .before .args .file .now) (c .before .before .before .before .args .at) (c .before .before .before .before .pre))
+add-value-3 c =
+    let entry = c .before .before .before .before in
+    omega (arith, constant-room (entry .args .file .now) (entry .args .at) (entry .pre))
 
 shared-slice-read-value-4 : tie.Need-shared-slice-read-value-4
-shared-slice-read-value-4 c = omega (arith, constant-room (c .before .before .before .before .before .args .file .now) (c .before .before .before .before .before .args .at) (c .before .before .before .before .before .pre))
+shared-slice-read-value-4 c =
+    let entry = c .before .before .before .before .before in
+    omega (arith, constant-room (entry .args .file .now) (entry .args .at) (entry .pre))
 
 value-requires : tie.Need-value-requires
 value-requires c κs = search needs
 
 shared-slice-read-t8 : tie.Need-shared-slice-read-t8
-shared-slice-read-t8 c = omega (arith, constant-room (c .before .before .before .before .before .before .before .args .file .now) (c .before .before .before .before .before .before .before .args .at) (c .before .before .before .before .before .before .before .pre))
+shared-slice-read-t8 c =
+    let entry = c .before .before .before .before .before .before .before in
+    omega (arith, constant-room (entry .args .file .now) (entry .args .at) (entry .pre))
 
 returns : tie.Need-returns
-returns c = constant-form (c .before .before .before .before .before .before .before .args .file .now) (c .before .before .before .before .before .before .before .args .at) (c .before .before .before .before .before .before .before .pre) ∙ ap (λ v. Constant (getD (c .before .before .before .before .before .before .before .args .file .now) (c .before .before .before .before .before .before .before .args .at + 1) 0) v (c .before .before .before .before .before .before .before .args .at + 6)) (sym (toZ-ofZ (record { sfits = c .before .value .ok }) ∙ c .before .value .ensures))
+returns c =
+    let at-value = c .before in
+    let entry = at-value .before .before .before .before .before .before in
+    constant-form (entry .args .file .now) (entry .args .at) (entry .pre) ∙ ap (λ v. Constant (getD (entry .args .file .now) (entry .args .at + 1) 0) v (entry .args .at + 6)) (sym (toZ-ofZ (record { sfits = at-value .value .ok }) ∙ at-value .value .ensures))
 
 pub constant-form-spec : {M : Type 1} → statement M
 constant-form-spec =

@@ -14,13 +14,19 @@ add-next : tie.Need-add-next
 add-next c = omega (arith, copy-room (c .args .file .now) (c .args .at) (c .pre))
 
 shared-slice-read-t7 : tie.Need-shared-slice-read-t7
-shared-slice-read-t7 c = omega (arith, copy-room (c .before .args .file .now) (c .before .args .at) (c .before .pre))
+shared-slice-read-t7 c =
+    let entry = c .before in
+    omega (arith, copy-room (entry .args .file .now) (entry .args .at) (entry .pre))
 
 shared-slice-read-t9 : tie.Need-shared-slice-read-t9
-shared-slice-read-t9 c = omega (arith, copy-room (c .before .before .args .file .now) (c .before .before .args .at) (c .before .before .pre))
+shared-slice-read-t9 c =
+    let entry = c .before .before in
+    omega (arith, copy-room (entry .args .file .now) (entry .args .at) (entry .pre))
 
 returns : tie.Need-returns
-returns c = copy-form (c .before .before .args .file .now) (c .before .before .args .at) (c .before .before .pre)
+returns c =
+    let entry = c .before .before in
+    copy-form (entry .args .file .now) (entry .args .at) (entry .pre)
 
 pub copy-form-spec : {M : Type 1} → statement M
 copy-form-spec =

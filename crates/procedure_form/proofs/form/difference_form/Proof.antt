@@ -17,16 +17,24 @@ add-next : tie.Need-add-next
 add-next c = omega (arith, difference-room (c .args .file .now) (c .args .at) (c .pre))
 
 shared-slice-read-t8 : tie.Need-shared-slice-read-t8
-shared-slice-read-t8 c = omega (arith, difference-room (c .before .args .file .now) (c .before .args .at) (c .before .pre))
+shared-slice-read-t8 c =
+    let entry = c .before in
+    omega (arith, difference-room (entry .args .file .now) (entry .args .at) (entry .pre))
 
 shared-slice-read-t10 : tie.Need-shared-slice-read-t10
-shared-slice-read-t10 c = omega (arith, difference-room (c .before .before .args .file .now) (c .before .before .args .at) (c .before .before .pre))
+shared-slice-read-t10 c =
+    let entry = c .before .before in
+    omega (arith, difference-room (entry .args .file .now) (entry .args .at) (entry .pre))
 
 shared-slice-read-t12 : tie.Need-shared-slice-read-t12
-shared-slice-read-t12 c = omega (arith, difference-room (c .before .before .before .args .file .now) (c .before .before .before .args .at) (c .before .before .before .pre))
+shared-slice-read-t12 c =
+    let entry = c .before .before .before in
+    omega (arith, difference-room (entry .args .file .now) (entry .args .at) (entry .pre))
 
 returns : tie.Need-returns
-returns c = difference-form (c .before .before .before .args .file .now) (c .before .before .before .args .at) (c .before .before .before .pre)
+returns c =
+    let entry = c .before .before .before in
+    difference-form (entry .args .file .now) (entry .args .at) (entry .pre)
 
 pub difference-form-spec : {M : Type 1} → statement M
 difference-form-spec =

@@ -11,10 +11,14 @@ add-next : tie.Need-add-next
 add-next c = omega (arith, goto-room (c .args .file .now) (c .args .at) (c .pre))
 
 shared-slice-read-t6 : tie.Need-shared-slice-read-t6
-shared-slice-read-t6 c = omega (arith, goto-room (c .before .args .file .now) (c .before .args .at) (c .before .pre))
+shared-slice-read-t6 c =
+    let entry = c .before in
+    omega (arith, goto-room (entry .args .file .now) (entry .args .at) (entry .pre))
 
 returns : tie.Need-returns
-returns c = goto-form (c .before .args .file .now) (c .before .args .at) (c .before .pre)
+returns c =
+    let entry = c .before in
+    goto-form (entry .args .file .now) (entry .args .at) (entry .pre)
 
 pub goto-form-spec : {M : Type 1} → statement M
 goto-form-spec = tie.close (tie.spec add-l add-next shared-slice-read-t6 returns)

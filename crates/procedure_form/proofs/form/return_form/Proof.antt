@@ -11,10 +11,14 @@ add-next : tie.Need-add-next
 add-next c = omega (arith, return-room (c .args .file .now) (c .args .at) (c .pre))
 
 shared-slice-read-t6 : tie.Need-shared-slice-read-t6
-shared-slice-read-t6 c = omega (arith, return-room (c .before .args .file .now) (c .before .args .at) (c .before .pre))
+shared-slice-read-t6 c =
+    let entry = c .before in
+    omega (arith, return-room (entry .args .file .now) (entry .args .at) (entry .pre))
 
 returns : tie.Need-returns
-returns c = return-form (c .before .args .file .now) (c .before .args .at) (c .before .pre)
+returns c =
+    let entry = c .before in
+    return-form (entry .args .file .now) (entry .args .at) (entry .pre)
 
 pub return-form-spec : {M : Type 1} → statement M
 return-form-spec = tie.close (tie.spec add-x add-next shared-slice-read-t6 returns)

@@ -29,22 +29,46 @@ enum-known-next : tie.Need-enum-known-next Inv-loop μ-loop
 enum-known-next c = search needs
 
 loop-less : tie.Need-loop-less Inv-loop μ-loop
-loop-less c = let m = onward-moves (c .before .before .before .before .before .before .before .args .file .now) (c .before .before .before .before .before .loop .at) (c .before .next .given .0 .0) (ap afterOf (sym (c .before .before .before .before .operation-at .ensures)) ∙ sym (c .before .before .before .after-of .ensures) ∙ c .before .next .given .1) in omega (arith, m .0, m .1)
+loop-less c =
+    let at-next = c .before in
+    let at-after-of = at-next .before .before in
+    let at-operation-at = at-after-of .before in
+    let at-loop = at-operation-at .before in
+    let entry = at-loop .before .before in
+    let m = onward-moves (entry .args .file .now) (at-loop .loop .at) (at-next .next .given .0 .0) (ap afterOf (sym (at-operation-at .operation-at .ensures)) ∙ sym (at-after-of .after-of .ensures) ∙ at-next .next .given .1) in omega (arith, m .0, m .1)
 
 loop-again : tie.Need-loop-again Inv-loop μ-loop
-loop-again c = sym (block-onward (c .before .before .before .before .before .before .before .args .file .now) (c .before .before .before .before .before .loop .at) (c .before .next .given .0 .0) (ap afterOf (sym (c .before .before .before .before .operation-at .ensures)) ∙ sym (c .before .before .before .after-of .ensures) ∙ c .before .next .given .1)) ∙ c .before .before .before .before .before .loop .inv
+loop-again c =
+    let at-next = c .before in
+    let at-after-of = at-next .before .before in
+    let at-operation-at = at-after-of .before in
+    let at-loop = at-operation-at .before in
+    let entry = at-loop .before .before in
+    sym (block-onward (entry .args .file .now) (at-loop .loop .at) (at-next .next .given .0 .0) (ap afterOf (sym (at-operation-at .operation-at .ensures)) ∙ sym (at-after-of .after-of .ensures) ∙ at-next .next .given .1)) ∙ at-loop .loop .inv
 
 enum-known-next-2 : tie.Need-enum-known-next-2 Inv-loop μ-loop
 enum-known-next-2 c = search needs
 
 returns : tie.Need-returns Inv-loop μ-loop
-returns c = sym (block-ended (c .before .before .before .before .before .before .before .args .file .now) (c .before .before .before .before .before .loop .at) (c .before .next2 .given .0 .0) (ap afterOf (sym (c .before .before .before .before .operation-at .ensures)) ∙ sym (c .before .before .before .after-of .ensures) ∙ c .before .next2 .given .1)) ∙ c .before .before .before .before .before .loop .inv
+returns c =
+    let at-next2 = c .before in
+    let at-after-of = at-next2 .before .before in
+    let at-operation-at = at-after-of .before in
+    let at-loop = at-operation-at .before in
+    let entry = at-loop .before .before in
+    sym (block-ended (entry .args .file .now) (at-loop .loop .at) (at-next2 .next2 .given .0 .0) (ap afterOf (sym (at-operation-at .operation-at .ensures)) ∙ sym (at-after-of .after-of .ensures) ∙ at-next2 .next2 .given .1)) ∙ at-loop .loop .inv
 
 enum-known-r : tie.Need-enum-known-r Inv-loop μ-loop
 enum-known-r c = search needs
 
 returns-2 : tie.Need-returns-2 Inv-loop μ-loop
-returns-2 c = sym (block-halted (c .before .before .before .before .before .before .before .args .file .now) (c .before .before .before .before .before .loop .at) (c .before .r .given .0 .0) (ap afterOf (sym (c .before .before .before .before .operation-at .ensures)) ∙ sym (c .before .before .before .after-of .ensures) ∙ c .before .r .given .1)) ∙ c .before .before .before .before .before .loop .inv
+returns-2 c =
+    let at-r = c .before in
+    let at-after-of = at-r .before .before in
+    let at-operation-at = at-after-of .before in
+    let at-loop = at-operation-at .before in
+    let entry = at-loop .before .before in
+    sym (block-halted (entry .args .file .now) (at-loop .loop .at) (at-r .r .given .0 .0) (ap afterOf (sym (at-operation-at .operation-at .ensures)) ∙ sym (at-after-of .after-of .ensures) ∙ at-r .r .given .1)) ∙ at-loop .loop .inv
 
 pub block-end-spec : {M : Type 1} → statement M
 block-end-spec =

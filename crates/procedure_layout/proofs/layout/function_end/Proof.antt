@@ -15,7 +15,11 @@ enum-known-n : tie.Need-enum-known-n
 enum-known-n c = search needs
 
 add-block-end : tie.Need-add-block-end
-add-block-end c = omega (arith, function-inside (c .before .before .before .before .before .args .file .now) (c .before .before .before .before .before .args .at) (c .before .n .given .0 .0) (sym (c .before .before .before .heading-at .ensures) ∙ c .before .n .given .1))
+add-block-end c =
+    let at-n = c .before in
+    let at-heading-at = at-n .before .before in
+    let entry = at-heading-at .before .before in
+    omega (arith, function-inside (entry .args .file .now) (entry .args .at) (at-n .n .given .0 .0) (sym (at-heading-at .heading-at .ensures) ∙ at-n .n .given .1))
 
 block-end-requires : tie.Need-block-end-requires
 block-end-requires c κs = search needs
@@ -30,13 +34,23 @@ labels-end-requires : tie.Need-labels-end-requires
 labels-end-requires c κs = search needs
 
 returns : tie.Need-returns
-returns c = sym (function-1 _ _ _ (sym (c .before .before .before .heading-at .ensures) ∙ c .before .r .given .1))
+returns c =
+    let at-heading-at = c .before .before .before in
+    sym (function-1 _ _ _ (sym (at-heading-at .heading-at .ensures) ∙ c .before .r .given .1))
 
 returns-2 : tie.Need-returns-2
-returns-2 c = sym (function-2 _ _ _ _ (sym (c .before .before .before .before .before .before .before .heading-at .ensures) ∙ c .before .before .before .before .before .n .given .1) (sym (c .before .before .before .block-end .ensures) ∙ c .before .r2 .given .1))
+returns-2 c =
+    let at-block-end = c .before .before .before in
+    let at-n = at-block-end .before .before in
+    let at-heading-at = at-n .before .before in
+    sym (function-2 _ _ _ _ (sym (at-heading-at .heading-at .ensures) ∙ at-n .n .given .1) (sym (at-block-end .block-end .ensures) ∙ c .before .r2 .given .1))
 
 returns-3 : tie.Need-returns-3
-returns-3 c = c .labels-end .ensures ∙ sym (function-3 _ _ _ _ (sym (c .before .before .before .before .before .before .before .before .heading-at .ensures) ∙ c .before .before .before .before .before .before .n .given .1) (sym (c .before .before .before .before .block-end .ensures) ∙ c .before .before .next .given .1))
+returns-3 c =
+    let at-block-end = c .before .before .before .before in
+    let at-n = at-block-end .before .before in
+    let at-heading-at = at-n .before .before in
+    c .labels-end .ensures ∙ sym (function-3 _ _ _ _ (sym (at-heading-at .heading-at .ensures) ∙ at-n .n .given .1) (sym (at-block-end .block-end .ensures) ∙ c .before .before .next .given .1))
 
 pub function-end-spec : {M : Type 1} → statement M
 function-end-spec =

@@ -28,16 +28,31 @@ loop-less : tie.Need-loop-less Inv-loop μ-loop
 loop-less c = search needs
 
 loop-again : tie.Need-loop-again Inv-loop μ-loop
-loop-again c = many-turn function (c .before .before .before .before .before .before .before .args .file .now) (c .before .before .before .before .before .loop .left) (c .before .before .before .before .before .loop .at) (c .before .next .given .0 .0) (c .before .before .before .before .loop-test .taken) (sym (c .before .before .before .function-end .ensures) ∙ c .before .next .given .1) ∙ c .before .before .before .before .before .loop .inv
+loop-again c =
+    let at-next = c .before in
+    let at-function-end = at-next .before .before in
+    let at-loop-test = at-function-end .before in
+    let at-loop = at-loop-test .before in
+    let entry = at-loop .before .before in
+    many-turn function (entry .args .file .now) (at-loop .loop .left) (at-loop .loop .at) (at-next .next .given .0 .0) (at-loop-test .loop-test .taken) (sym (at-function-end .function-end .ensures) ∙ at-next .next .given .1) ∙ at-loop .loop .inv
 
 enum-known-r : tie.Need-enum-known-r Inv-loop μ-loop
 enum-known-r c = search needs
 
 returns : tie.Need-returns Inv-loop μ-loop
-returns c = many-halt function (c .before .before .before .before .before .before .before .args .file .now) (c .before .before .before .before .before .loop .left) (c .before .before .before .before .before .loop .at) (c .before .r .given .0 .0) (c .before .before .before .before .loop-test .taken) (sym (c .before .before .before .function-end .ensures) ∙ c .before .r .given .1) ∙ c .before .before .before .before .before .loop .inv
+returns c =
+    let at-r = c .before in
+    let at-function-end = at-r .before .before in
+    let at-loop-test = at-function-end .before in
+    let at-loop = at-loop-test .before in
+    let entry = at-loop .before .before in
+    many-halt function (entry .args .file .now) (at-loop .loop .left) (at-loop .loop .at) (at-r .r .given .0 .0) (at-loop-test .loop-test .taken) (sym (at-function-end .function-end .ensures) ∙ at-r .r .given .1) ∙ at-loop .loop .inv
 
 returns-2 : tie.Need-returns-2 Inv-loop μ-loop
-returns-2 c = many-last function (c .before .before .before .args .file .now) (c .before .loop .left) (c .before .loop .at) (c .loop-test .left) ∙ c .before .loop .inv
+returns-2 c =
+    let at-loop = c .before in
+    let entry = at-loop .before .before in
+    many-last function (entry .args .file .now) (at-loop .loop .left) (at-loop .loop .at) (c .loop-test .left) ∙ at-loop .loop .inv
 
 pub functions-end-spec : {M : Type 1} → statement M
 functions-end-spec =

@@ -16,7 +16,9 @@ enum-told : tie.Need-enum-told
 enum-told c = search needs
 
 add-count-at : tie.Need-add-count-at
-add-count-at c = omega (arith, count-inside 0 8 (c .before .before .before .before .args .file .now) (c .before .before .before .before .args .at) _ (sym (c .before .before .count-at .ensures) ∙ c .enum-told .given .1))
+add-count-at c =
+    let entry = c .before .before .before .before in
+    omega (arith, count-inside 0 8 (entry .args .file .now) (entry .args .at) _ (sym (c .before .before .count-at .ensures) ∙ c .enum-told .given .1))
 
 count-at-requires-2 : tie.Need-count-at-requires-2
 count-at-requires-2 c κs = search needs
@@ -28,22 +30,38 @@ enum-told-2 : tie.Need-enum-told-2
 enum-told-2 c = search needs
 
 add-count-at-2 : tie.Need-add-count-at-2
-add-count-at-2 c = omega (arith, count-inside 0 8 (c .before .before .before .before .before .before .before .args .file .now) (c .before .before .before .before .before .before .before .args .at) _ (sym (c .before .before .before .before .before .count-at .ensures) ∙ c .before .before .before .enum-told .given .1))
+add-count-at-2 c =
+    let at-enum-told = c .before .before .before in
+    let at-count-at = at-enum-told .before .before in
+    let entry = at-count-at .before .before in
+    omega (arith, count-inside 0 8 (entry .args .file .now) (entry .args .at) _ (sym (at-count-at .count-at .ensures) ∙ at-enum-told .enum-told .given .1))
 
 add-count-at-3 : tie.Need-add-count-at-3
-add-count-at-3 c = omega (arith, count-inside 0 24 (c .before .before .before .before .before .before .before .args .file .now) (c .before .before .before .before .before .before .before .args .at + 1) _ (sym (c .before .before .count-at2 .ensures) ∙ c .enum-told2 .given .1))
+add-count-at-3 c =
+    let entry = c .before .before .before .before .before .before .before in
+    omega (arith, count-inside 0 24 (entry .args .file .now) (entry .args .at + 1) _ (sym (c .before .before .count-at2 .ensures) ∙ c .enum-told2 .given .1))
 
 count-at-requires-3 : tie.Need-count-at-requires-3
 count-at-requires-3 c κs = search needs
 
 returns : tie.Need-returns
-returns c = sym (heading-1 _ _ _ (sym (c .before .before .before .count-at .ensures) ∙ c .before .r .given .1))
+returns c =
+    let at-count-at = c .before .before .before in
+    sym (heading-1 _ _ _ (sym (at-count-at .count-at .ensures) ∙ c .before .r .given .1))
 
 returns-2 : tie.Need-returns-2
-returns-2 c = sym (heading-2 _ _ _ _ (sym (c .before .before .before .before .before .before .count-at .ensures) ∙ c .before .before .before .before .enum-told .given .1) (sym (c .before .before .before .count-at2 .ensures) ∙ c .before .r2 .given .1))
+returns-2 c =
+    let at-count-at2 = c .before .before .before in
+    let at-enum-told = at-count-at2 .before in
+    let at-count-at = at-enum-told .before .before in
+    sym (heading-2 _ _ _ _ (sym (at-count-at .count-at .ensures) ∙ at-enum-told .enum-told .given .1) (sym (at-count-at2 .count-at2 .ensures) ∙ c .before .r2 .given .1))
 
 returns-3 : tie.Need-returns-3
-returns-3 c = c .count-at3 .ensures ∙ sym (heading-3 _ _ _ _ (sym (c .before .before .before .before .before .before .count-at .ensures) ∙ c .before .before .before .before .enum-told .given .1) (sym (c .before .before .before .count-at2 .ensures) ∙ c .before .enum-told2 .given .1))
+returns-3 c =
+    let at-count-at2 = c .before .before .before in
+    let at-enum-told = at-count-at2 .before in
+    let at-count-at = at-enum-told .before .before in
+    c .count-at3 .ensures ∙ sym (heading-3 _ _ _ _ (sym (at-count-at .count-at .ensures) ∙ at-enum-told .enum-told .given .1) (sym (at-count-at2 .count-at2 .ensures) ∙ c .before .enum-told2 .given .1))
 
 pub heading-at-spec : {M : Type 1} → statement M
 heading-at-spec =

@@ -47,19 +47,47 @@ file-end-requires : tie.Need-file-end-requires
 file-end-requires c κs = search needs
 
 returns : tie.Need-returns
-returns c = sym (program-1 _ _ (sym (c .before .before .before .mark-end .ensures) ∙ c .before .r .given .1))
+returns c =
+    let at-mark-end = c .before .before .before in
+    sym (program-1 _ _ (sym (at-mark-end .mark-end .ensures) ∙ c .before .r .given .1))
 
 returns-2 : tie.Need-returns-2
-returns-2 c = sym (program-2 _ _ (sym (c .before .before .before .before .before .before .mark-end .ensures) ∙ c .before .before .before .before .enum-told .given .1) _ (sym (c .before .before .before .version-end .ensures) ∙ c .before .r2 .given .1))
+returns-2 c =
+    let at-version-end = c .before .before .before in
+    let at-enum-told = at-version-end .before in
+    let at-mark-end = at-enum-told .before .before in
+    sym (program-2 _ _ (sym (at-mark-end .mark-end .ensures) ∙ at-enum-told .enum-told .given .1) _ (sym (at-version-end .version-end .ensures) ∙ c .before .r2 .given .1))
 
 returns-3 : tie.Need-returns-3
-returns-3 c = sym (program-3 _ _ (sym (c .before .before .before .before .before .before .before .before .before .mark-end .ensures) ∙ c .before .before .before .before .before .before .before .enum-told .given .1) _ (sym (c .before .before .before .before .before .before .version-end .ensures) ∙ c .before .before .before .before .enum-told2 .given .1) _ (sym (c .before .before .before .count-at .ensures) ∙ c .before .r3 .given .1))
+returns-3 c =
+    let at-count-at = c .before .before .before in
+    let at-enum-told2 = at-count-at .before in
+    let at-version-end = at-enum-told2 .before .before in
+    let at-enum-told = at-version-end .before in
+    let at-mark-end = at-enum-told .before .before in
+    sym (program-3 _ _ (sym (at-mark-end .mark-end .ensures) ∙ at-enum-told .enum-told .given .1) _ (sym (at-version-end .version-end .ensures) ∙ at-enum-told2 .enum-told2 .given .1) _ (sym (at-count-at .count-at .ensures) ∙ c .before .r3 .given .1))
 
 returns-4 : tie.Need-returns-4
-returns-4 c = sym (program-4 _ _ (sym (c .before .before .before .before .before .before .before .before .before .before .before .before .before .mark-end .ensures) ∙ c .before .before .before .before .before .before .before .before .before .before .before .enum-told .given .1) _ (sym (c .before .before .before .before .before .before .before .before .before .before .version-end .ensures) ∙ c .before .before .before .before .before .before .before .before .enum-told2 .given .1) _ (sym (c .before .before .before .before .before .before .before .count-at .ensures) ∙ c .before .before .before .before .before .n .given .1) _ (sym (c .before .before .before .functions-end .ensures) ∙ c .before .r4 .given .1))
+returns-4 c =
+    let at-functions-end = c .before .before .before in
+    let at-n = at-functions-end .before .before in
+    let at-count-at = at-n .before .before in
+    let at-enum-told2 = at-count-at .before in
+    let at-version-end = at-enum-told2 .before .before in
+    let at-enum-told = at-version-end .before in
+    let at-mark-end = at-enum-told .before .before in
+    sym (program-4 _ _ (sym (at-mark-end .mark-end .ensures) ∙ at-enum-told .enum-told .given .1) _ (sym (at-version-end .version-end .ensures) ∙ at-enum-told2 .enum-told2 .given .1) _ (sym (at-count-at .count-at .ensures) ∙ at-n .n .given .1) _ (sym (at-functions-end .functions-end .ensures) ∙ c .before .r4 .given .1))
 
 returns-5 : tie.Need-returns-5
-returns-5 c = c .file-end .ensures ∙ sym (program-5 _ _ (sym (c .before .before .before .before .before .before .before .before .before .before .before .before .before .before .mark-end .ensures) ∙ c .before .before .before .before .before .before .before .before .before .before .before .before .enum-told .given .1) _ (sym (c .before .before .before .before .before .before .before .before .before .before .before .version-end .ensures) ∙ c .before .before .before .before .before .before .before .before .before .enum-told2 .given .1) _ (sym (c .before .before .before .before .before .before .before .before .count-at .ensures) ∙ c .before .before .before .before .before .before .n .given .1) _ (sym (c .before .before .before .before .functions-end .ensures) ∙ c .before .before .end .given .1))
+returns-5 c =
+    let at-functions-end = c .before .before .before .before in
+    let at-n = at-functions-end .before .before in
+    let at-count-at = at-n .before .before in
+    let at-enum-told2 = at-count-at .before in
+    let at-version-end = at-enum-told2 .before .before in
+    let at-enum-told = at-version-end .before in
+    let at-mark-end = at-enum-told .before .before in
+    c .file-end .ensures ∙ sym (program-5 _ _ (sym (at-mark-end .mark-end .ensures) ∙ at-enum-told .enum-told .given .1) _ (sym (at-version-end .version-end .ensures) ∙ at-enum-told2 .enum-told2 .given .1) _ (sym (at-count-at .count-at .ensures) ∙ at-n .n .given .1) _ (sym (at-functions-end .functions-end .ensures) ∙ c .before .before .end .given .1))
 
 pub layout-end-spec : {M : Type 1} → statement M
 layout-end-spec =

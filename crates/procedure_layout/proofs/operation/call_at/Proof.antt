@@ -13,7 +13,9 @@ cut-requires : tie.Need-cut-requires
 cut-requires c κs = search needs
 
 returns : tie.Need-returns
-returns c = c .cut .ensures ∙ sym (call-cut (c .before .before .before .args .file .now) (c .before .before .before .args .at) (c .before .if1 .taken))
+returns c =
+    let entry = c .before .before .before in
+    c .cut .ensures ∙ sym (call-cut (entry .args .file .now) (entry .args .at) (c .before .if1 .taken))
 
 add-count : tie.Need-add-count
 add-count c = search needs
@@ -22,16 +24,22 @@ shared-slice-read-count : tie.Need-shared-slice-read-count
 shared-slice-read-count c = search needs
 
 cast-next : tie.Need-cast-next
-cast-next c = omega (arith, c .shared-slice-known2 .given (c .before .before .before .args .at + 3))
+cast-next c =
+    let entry = c .before .before .before in
+    omega (arith, c .shared-slice-known2 .given (entry .args .at + 3))
 
 add-next : tie.Need-add-next
-add-next c = omega (arith, c .shared-slice-known2 .given (c .before .before .before .args .at + 3))
+add-next c =
+    let entry = c .before .before .before in
+    omega (arith, c .shared-slice-known2 .given (entry .args .at + 3))
 
 cut-requires-2 : tie.Need-cut-requires-2
 cut-requires-2 c κs = search needs
 
 returns-2 : tie.Need-returns-2
-returns-2 c = c .cut2 .ensures ∙ sym (call-short (c .before .before .before .before .before .args .file .now) (c .before .before .before .before .before .args .at) (omega arith) (c .before .if2 .taken))
+returns-2 c =
+    let entry = c .before .before .before .before .before in
+    c .cut2 .ensures ∙ sym (call-short (entry .args .file .now) (entry .args .at) (omega arith) (c .before .if2 .taken))
 
 add-t6 : tie.Need-add-t6
 add-t6 c = search needs
@@ -46,7 +54,9 @@ shared-slice-read-t13 : tie.Need-shared-slice-read-t13
 shared-slice-read-t13 c = search needs
 
 returns-3 : tie.Need-returns-3
-returns-3 c = sym (call-in (c .before .before .before .before .before .before .args .file .now) (c .before .before .before .before .before .before .args .at) (omega arith))
+returns-3 c =
+    let entry = c .before .before .before .before .before .before in
+    sym (call-in (entry .args .file .now) (entry .args .at) (omega arith))
 
 pub call-at-spec : {M : Type 1} → statement M
 call-at-spec =

@@ -16,7 +16,9 @@ cut-requires : tie.Need-cut-requires
 cut-requires c κs = search needs
 
 returns : tie.Need-returns
-returns c = c .cut .ensures ∙ sym (constant-cut (c .before .before .before .args .file .now) (c .before .before .before .args .at) (c .before .if1 .taken))
+returns c =
+    let entry = c .before .before .before in
+    c .cut .ensures ∙ sym (constant-cut (entry .args .file .now) (entry .args .at) (c .before .if1 .taken))
 
 add-x : tie.Need-add-x
 add-x c = search needs
@@ -52,7 +54,10 @@ shared-slice-read-t10 : tie.Need-shared-slice-read-t10
 shared-slice-read-t10 c = search needs
 
 returns-2 : tie.Need-returns-2
-returns-2 c = ap (λ v. Constant (getD (c .before .before .before .before .before .before .before .before .args .file .now) (c .before .before .before .before .before .before .before .before .args .at + 1) 0) v (c .before .before .before .before .before .before .before .before .args .at + 6)) (toZ-ofZ (record { sfits = c .before .value .ok }) ∙ c .before .value .ensures) ∙ sym (constant-in (c .before .before .before .before .before .before .before .before .args .file .now) (c .before .before .before .before .before .before .before .before .args .at) (omega arith))
+returns-2 c =
+    let at-value = c .before in
+    let entry = at-value .before .before .before .before .before .before .before in
+    ap (λ v. Constant (getD (entry .args .file .now) (entry .args .at + 1) 0) v (entry .args .at + 6)) (toZ-ofZ (record { sfits = at-value .value .ok }) ∙ at-value .value .ensures) ∙ sym (constant-in (entry .args .file .now) (entry .args .at) (omega arith))
 
 pub constant-at-spec : {M : Type 1} → statement M
 constant-at-spec =

@@ -12,7 +12,9 @@ cut-requires : tie.Need-cut-requires
 cut-requires c κs = search needs
 
 returns : tie.Need-returns
-returns c = c .cut .ensures ∙ sym (copy-cut (c .before .before .before .args .file .now) (c .before .before .before .args .at) (c .before .if1 .taken))
+returns c =
+    let entry = c .before .before .before in
+    c .cut .ensures ∙ sym (copy-cut (entry .args .file .now) (entry .args .at) (c .before .if1 .taken))
 
 add-t4 : tie.Need-add-t4
 add-t4 c = search needs
@@ -27,7 +29,9 @@ shared-slice-read-t10 : tie.Need-shared-slice-read-t10
 shared-slice-read-t10 c = search needs
 
 returns-2 : tie.Need-returns-2
-returns-2 c = sym (copy-in (c .before .before .before .before .args .file .now) (c .before .before .before .before .args .at) (omega arith))
+returns-2 c =
+    let entry = c .before .before .before .before in
+    sym (copy-in (entry .args .file .now) (entry .args .at) (omega arith))
 
 pub copy-at-spec : {M : Type 1} → statement M
 copy-at-spec =

@@ -12,7 +12,9 @@ cut-requires : tie.Need-cut-requires
 cut-requires c κs = search needs
 
 returns : tie.Need-returns
-returns c = c .cut .ensures ∙ sym (difference-cut (c .before .before .before .args .file .now) (c .before .before .before .args .at) (c .before .if1 .taken))
+returns c =
+    let entry = c .before .before .before in
+    c .cut .ensures ∙ sym (difference-cut (entry .args .file .now) (entry .args .at) (c .before .if1 .taken))
 
 add-t4 : tie.Need-add-t4
 add-t4 c = search needs
@@ -33,7 +35,9 @@ shared-slice-read-t13 : tie.Need-shared-slice-read-t13
 shared-slice-read-t13 c = search needs
 
 returns-2 : tie.Need-returns-2
-returns-2 c = sym (difference-in (c .before .before .before .before .before .args .file .now) (c .before .before .before .before .before .args .at) (omega arith))
+returns-2 c =
+    let entry = c .before .before .before .before .before in
+    sym (difference-in (entry .args .file .now) (entry .args .at) (omega arith))
 
 pub difference-at-spec : {M : Type 1} → statement M
 difference-at-spec =

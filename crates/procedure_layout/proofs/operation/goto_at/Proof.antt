@@ -12,7 +12,9 @@ cut-requires : tie.Need-cut-requires
 cut-requires c κs = search needs
 
 returns : tie.Need-returns
-returns c = c .cut .ensures ∙ sym (goto-cut (c .before .before .before .args .file .now) (c .before .before .before .args .at) (c .before .if1 .taken))
+returns c =
+    let entry = c .before .before .before in
+    c .cut .ensures ∙ sym (goto-cut (entry .args .file .now) (entry .args .at) (c .before .if1 .taken))
 
 add-t4 : tie.Need-add-t4
 add-t4 c = search needs
@@ -21,7 +23,9 @@ shared-slice-read-t7 : tie.Need-shared-slice-read-t7
 shared-slice-read-t7 c = search needs
 
 returns-2 : tie.Need-returns-2
-returns-2 c = sym (goto-in (c .before .before .before .args .file .now) (c .before .before .before .args .at) (omega arith))
+returns-2 c =
+    let entry = c .before .before .before in
+    sym (goto-in (entry .args .file .now) (entry .args .at) (omega arith))
 
 pub goto-at-spec : {M : Type 1} → statement M
 goto-at-spec =

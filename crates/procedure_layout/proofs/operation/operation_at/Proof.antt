@@ -42,13 +42,19 @@ returns-5 : tie.Need-returns-5
 returns-5 c = c .call-at .ensures ∙ sym (operation-4 _ _ (omega arith) (c .before .match .keys4))
 
 returns-6 : tie.Need-returns-6
-returns-6 c = let r = c .before .before .before .match .rest in c .end-at .ensures ∙ sym (operation-end _ _ (omega arith) (r .0 .0 .0 .1) (r .0 .0 .1) (r .0 .1) (r .1))
+returns-6 c =
+    let at-match = c .before .before .before in
+    let r = at-match .match .rest in c .end-at .ensures ∙ sym (operation-end _ _ (omega arith) (r .0 .0 .0 .1) (r .0 .0 .1) (r .0 .1) (r .1))
 
 returns-7 : tie.Need-returns-7
-returns-7 c = let r = c .before .match .rest in sym (operation-unknown (c .before .before .before .before .before .args .file .now) (c .before .before .before .before .before .args .at) (omega arith) (r .0 .0 .0 .1) (r .0 .0 .1) (r .0 .1) (r .1) (λ e. omega arith) (λ e. omega arith) (λ e. omega arith) (λ e. omega arith))
+returns-7 c =
+    let entry = c .before .before .before .before .before in
+    let r = c .before .match .rest in sym (operation-unknown (entry .args .file .now) (entry .args .at) (omega arith) (r .0 .0 .0 .1) (r .0 .0 .1) (r .0 .1) (r .1) (λ e. omega arith) (λ e. omega arith) (λ e. omega arith) (λ e. omega arith))
 
 returns-8 : tie.Need-returns-8
-returns-8 c = let r = c .before .before .match .rest in sym (operation-unknown (c .before .before .before .before .before .before .args .file .now) (c .before .before .before .before .before .before .args .at) (omega arith) (r .0 .0 .0 .1) (r .0 .0 .1) (r .0 .1) (r .1) (λ e. omega arith) (λ e. omega arith) (λ e. omega arith) (λ e. omega arith))
+returns-8 c =
+    let entry = c .before .before .before .before .before .before in
+    let r = c .before .before .match .rest in sym (operation-unknown (entry .args .file .now) (entry .args .at) (omega arith) (r .0 .0 .0 .1) (r .0 .0 .1) (r .0 .1) (r .1) (λ e. omega arith) (λ e. omega arith) (λ e. omega arith) (λ e. omega arith))
 
 pub operation-at-spec : {M : Type 1} → statement M
 operation-at-spec =

@@ -38,16 +38,27 @@ loop-less : tie.Need-loop-less Inv-loop μ-loop
 loop-less c = search needs
 
 loop-again : tie.Need-loop-again Inv-loop μ-loop
-loop-again c = let i = c .before .before .before .before .before .loop .inv in (c .before .before .before .before .before .before .before .pre, omega (arith, i .1), i .2, argument-on (c .before .before .before .before .before .before .before .args .file .now) (c .before .before .before .before .before .before .before .args .variables) (c .before .before .before .before .before .before .before .args .at) (c .before .before .before .before .before .before .before .args .count) (c .before .before .before .before .before .before .before .pre) (c .before .before .before .before .before .loop .place) (i .1) (omega (arith, i .2, c .before .before .before .before .loop-test .taken)) (variable-is _ _ _ (sym (c .before .before .variable-number .ensures) ∙ c .enum-told .given .1)) ∙ i .3)
+loop-again c =
+    let at-loop-test = c .before .before .before .before in
+    let at-loop = at-loop-test .before in
+    let entry = at-loop .before .before in
+    let i = at-loop .loop .inv in (entry .pre, omega (arith, i .1), i .2, argument-on (entry .args .file .now) (entry .args .variables) (entry .args .at) (entry .args .count) (entry .pre) (at-loop .loop .place) (i .1) (omega (arith, i .2, at-loop-test .loop-test .taken)) (variable-is _ _ _ (sym (c .before .before .variable-number .ensures) ∙ c .enum-told .given .1)) ∙ i .3)
 
 enum-told-2 : tie.Need-enum-told-2 Inv-loop μ-loop
 enum-told-2 c = search needs
 
 returns : tie.Need-returns Inv-loop μ-loop
-returns c = let i = c .before .before .before .before .before .loop .inv in argument-wrong (c .before .before .before .before .before .before .before .args .file .now) (c .before .before .before .before .before .before .before .args .variables) (c .before .before .before .before .before .before .before .args .at) (c .before .before .before .before .before .before .before .args .count) (c .before .before .before .before .before .before .before .pre) (c .before .before .before .before .before .loop .place) (i .1) (omega (arith, i .2, c .before .before .before .before .loop-test .taken)) (variable-none _ _ (sym (c .before .before .variable-number .ensures) ∙ c .enum-told2 .given .1)) ∙ i .3 ∙ arguments-start (c .before .before .before .before .before .before .before .args .file .now) (c .before .before .before .before .before .before .before .args .variables) (c .before .before .before .before .before .before .before .args .at) (c .before .before .before .before .before .before .before .args .count) (c .before .before .before .before .before .before .before .pre)
+returns c =
+    let at-loop-test = c .before .before .before .before in
+    let at-loop = at-loop-test .before in
+    let entry = at-loop .before .before in
+    let i = at-loop .loop .inv in argument-wrong (entry .args .file .now) (entry .args .variables) (entry .args .at) (entry .args .count) (entry .pre) (at-loop .loop .place) (i .1) (omega (arith, i .2, at-loop-test .loop-test .taken)) (variable-none _ _ (sym (c .before .before .variable-number .ensures) ∙ c .enum-told2 .given .1)) ∙ i .3 ∙ arguments-start (entry .args .file .now) (entry .args .variables) (entry .args .at) (entry .args .count) (entry .pre)
 
 returns-2 : tie.Need-returns-2 Inv-loop μ-loop
-returns-2 c = let i = c .before .loop .inv in arguments-done (c .before .before .before .args .file .now) (c .before .before .before .args .variables) (c .before .before .before .args .at) (c .before .before .before .args .count) (c .before .before .before .pre) (c .before .loop .place) (omega (arith, i .2, c .loop-test .left)) ∙ i .3 ∙ arguments-start (c .before .before .before .args .file .now) (c .before .before .before .args .variables) (c .before .before .before .args .at) (c .before .before .before .args .count) (c .before .before .before .pre)
+returns-2 c =
+    let at-loop = c .before in
+    let entry = at-loop .before .before in
+    let i = at-loop .loop .inv in arguments-done (entry .args .file .now) (entry .args .variables) (entry .args .at) (entry .args .count) (entry .pre) (at-loop .loop .place) (omega (arith, i .2, c .loop-test .left)) ∙ i .3 ∙ arguments-start (entry .args .file .now) (entry .args .variables) (entry .args .at) (entry .args .count) (entry .pre)
 
 pub arguments-named-spec : {M : Type 1} → statement M
 arguments-named-spec =

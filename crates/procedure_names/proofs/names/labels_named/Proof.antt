@@ -22,7 +22,10 @@ or-else-requires : tie.Need-or-else-requires
 or-else-requires c κs = search needs
 
 returns : tie.Need-returns
-returns c = let a = c .before .before .before .args in join (label (a .labels) (a .at + 3) (a .l) ∷ []) (label (a .labels) (a .at + 4) (a .m) ∷ []) _ _ _ (c .or-else .ensures) (c .before .before .label-named .ensures) (c .before .label-named2 .ensures)
+returns c =
+    let at-before = c .before .before in
+    let entry = at-before .before in
+    let a = entry .args in join (label (a .labels) (a .at + 3) (a .l) ∷ []) (label (a .labels) (a .at + 4) (a .m) ∷ []) _ _ _ (c .or-else .ensures) (at-before .label-named .ensures) (c .before .label-named2 .ensures)
 
 pub labels-named-spec : {M : Type 1} → statement M
 labels-named-spec =

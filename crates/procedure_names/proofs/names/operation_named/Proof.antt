@@ -5,7 +5,9 @@ use Rattle.procedure_names.proofs.names.operation_named.Statement.{stat
 use Rattle.procedure_names.proofs.names.operation_named.Tie as tie
 
 returns : tie.Need-returns
-returns c = by-form (c .before .before .before .args .params .now) (c .before .before .before .args .variables) (c .before .before .before .args .labels) (c .before .before .before .args .file .now) (c .before .before .before .args .at) (c .before .before .before .args .o) _ _ (c .before .before .before .pre) (past-names (c .before .before .before .args .params .now) (c .before .before .before .args .variables) (c .before .before .before .args .labels) (c .before .before .before .args .file .now) (c .before .before .before .args .at) (c .if1 .taken))
+returns c =
+    let entry = c .before .before .before in
+    by-form (entry .args .params .now) (entry .args .variables) (entry .args .labels) (entry .args .file .now) (entry .args .at) (entry .args .o) _ _ (entry .pre) (past-names (entry .args .params .now) (entry .args .variables) (entry .args .labels) (entry .args .file .now) (entry .args .at) (c .if1 .taken))
 
 enum-known-o : tie.Need-enum-known-o
 enum-known-o c = search needs
@@ -32,7 +34,9 @@ enum-known-o-4 : tie.Need-enum-known-o-4
 enum-known-o-4 c = search needs
 
 call-named-requires : tie.Need-call-named-requires
-call-named-requires c κs = call-room (c .before .before .before .before .before .before .args .file .now) (c .before .before .before .before .before .before .args .at) _ _ _ _ (sym (c .before .before .before .before .before .before .pre) ∙ c .before .o4 .given .1)
+call-named-requires c κs =
+    let entry = c .before .before .before .before .before .before in
+    call-room (entry .args .file .now) (entry .args .at) _ _ _ _ (sym (entry .pre) ∙ c .before .o4 .given .1)
 
 enum-known-o-5 : tie.Need-enum-known-o-5
 enum-known-o-5 c = search needs
@@ -65,31 +69,49 @@ enum-told-2 : tie.Need-enum-told-2
 enum-told-2 c = search needs
 
 returns-2 : tie.Need-returns-2
-returns-2 c = by-form (c .before .before .before .before .before .before .before .args .params .now) (c .before .before .before .before .before .before .before .args .variables) (c .before .before .before .before .before .before .before .args .labels) (c .before .before .before .before .before .before .before .args .file .now) (c .before .before .before .before .before .before .before .args .at) (c .before .before .before .before .before .before .before .args .o) _ _ (c .before .before .o .given .1) (c .variable-named .ensures)
+returns-2 c =
+    let entry = c .before .before .before .before .before .before .before in
+    by-form (entry .args .params .now) (entry .args .variables) (entry .args .labels) (entry .args .file .now) (entry .args .at) (entry .args .o) _ _ (c .before .before .o .given .1) (c .variable-named .ensures)
 
 returns-3 : tie.Need-returns-3
-returns-3 c = by-form (c .before .before .before .before .before .before .before .args .params .now) (c .before .before .before .before .before .before .before .args .variables) (c .before .before .before .before .before .before .before .args .labels) (c .before .before .before .before .before .before .before .args .file .now) (c .before .before .before .before .before .before .before .args .at) (c .before .before .before .before .before .before .before .args .o) _ _ (c .before .before .o2 .given .1) (c .two-named .ensures)
+returns-3 c =
+    let entry = c .before .before .before .before .before .before .before in
+    by-form (entry .args .params .now) (entry .args .variables) (entry .args .labels) (entry .args .file .now) (entry .args .at) (entry .args .o) _ _ (c .before .before .o2 .given .1) (c .two-named .ensures)
 
 returns-4 : tie.Need-returns-4
-returns-4 c = by-form (c .before .before .before .before .before .before .before .args .params .now) (c .before .before .before .before .before .before .before .args .variables) (c .before .before .before .before .before .before .before .args .labels) (c .before .before .before .before .before .before .before .args .file .now) (c .before .before .before .before .before .before .before .args .at) (c .before .before .before .before .before .before .before .args .o) _ _ (c .before .before .o3 .given .1) (c .three-named .ensures)
+returns-4 c =
+    let entry = c .before .before .before .before .before .before .before in
+    by-form (entry .args .params .now) (entry .args .variables) (entry .args .labels) (entry .args .file .now) (entry .args .at) (entry .args .o) _ _ (c .before .before .o3 .given .1) (c .three-named .ensures)
 
 returns-5 : tie.Need-returns-5
-returns-5 c = by-form (c .before .before .before .before .before .before .before .args .params .now) (c .before .before .before .before .before .before .before .args .variables) (c .before .before .before .before .before .before .before .args .labels) (c .before .before .before .before .before .before .before .args .file .now) (c .before .before .before .before .before .before .before .args .at) (c .before .before .before .before .before .before .before .args .o) _ _ (c .before .before .o4 .given .1) (c .call-named .ensures)
+returns-5 c =
+    let entry = c .before .before .before .before .before .before .before in
+    by-form (entry .args .params .now) (entry .args .variables) (entry .args .labels) (entry .args .file .now) (entry .args .at) (entry .args .o) _ _ (c .before .before .o4 .given .1) (c .call-named .ensures)
 
 returns-6 : tie.Need-returns-6
-returns-6 c = by-form (c .before .before .before .before .before .before .before .args .params .now) (c .before .before .before .before .before .before .before .args .variables) (c .before .before .before .before .before .before .before .args .labels) (c .before .before .before .before .before .before .before .args .file .now) (c .before .before .before .before .before .before .before .args .at) (c .before .before .before .before .before .before .before .args .o) _ _ (c .before .before .o5 .given .1) (c .label-named .ensures)
+returns-6 c =
+    let entry = c .before .before .before .before .before .before .before in
+    by-form (entry .args .params .now) (entry .args .variables) (entry .args .labels) (entry .args .file .now) (entry .args .at) (entry .args .o) _ _ (c .before .before .o5 .given .1) (c .label-named .ensures)
 
 returns-7 : tie.Need-returns-7
-returns-7 c = by-form (c .before .before .before .before .before .before .before .args .params .now) (c .before .before .before .before .before .before .before .args .variables) (c .before .before .before .before .before .before .before .args .labels) (c .before .before .before .before .before .before .before .args .file .now) (c .before .before .before .before .before .before .before .args .at) (c .before .before .before .before .before .before .before .args .o) _ _ (c .before .before .o6 .given .1) (c .variable-named2 .ensures)
+returns-7 c =
+    let entry = c .before .before .before .before .before .before .before in
+    by-form (entry .args .params .now) (entry .args .variables) (entry .args .labels) (entry .args .file .now) (entry .args .at) (entry .args .o) _ _ (c .before .before .o6 .given .1) (c .variable-named2 .ensures)
 
 returns-8 : tie.Need-returns-8
-returns-8 c = by-form (c .before .before .before .before .before .before .before .args .params .now) (c .before .before .before .before .before .before .before .args .variables) (c .before .before .before .before .before .before .before .args .labels) (c .before .before .before .before .before .before .before .args .file .now) (c .before .before .before .before .before .before .before .args .at) (c .before .before .before .before .before .before .before .args .o) _ _ (c .before .before .o7 .given .1) (c .branch-named .ensures)
+returns-8 c =
+    let entry = c .before .before .before .before .before .before .before in
+    by-form (entry .args .params .now) (entry .args .variables) (entry .args .labels) (entry .args .file .now) (entry .args .at) (entry .args .o) _ _ (c .before .before .o7 .given .1) (c .branch-named .ensures)
 
 returns-9 : tie.Need-returns-9
-returns-9 c = by-form (c .before .before .before .before .before .args .params .now) (c .before .before .before .before .before .args .variables) (c .before .before .before .before .before .args .labels) (c .before .before .before .before .before .args .file .now) (c .before .before .before .before .before .args .at) (c .before .before .before .before .before .args .o) _ _ (c .enum-told .given .1) refl
+returns-9 c =
+    let entry = c .before .before .before .before .before in
+    by-form (entry .args .params .now) (entry .args .variables) (entry .args .labels) (entry .args .file .now) (entry .args .at) (entry .args .o) _ _ (c .enum-told .given .1) refl
 
 returns-10 : tie.Need-returns-10
-returns-10 c = by-form (c .before .before .before .before .before .args .params .now) (c .before .before .before .before .before .args .variables) (c .before .before .before .before .before .args .labels) (c .before .before .before .before .before .args .file .now) (c .before .before .before .before .before .args .at) (c .before .before .before .before .before .args .o) _ _ (c .enum-told2 .given .1) refl
+returns-10 c =
+    let entry = c .before .before .before .before .before in
+    by-form (entry .args .params .now) (entry .args .variables) (entry .args .labels) (entry .args .file .now) (entry .args .at) (entry .args .o) _ _ (c .enum-told2 .given .1) refl
 
 pub operation-named-spec : {M : Type 1} → statement M
 operation-named-spec =

@@ -14,7 +14,9 @@ returns : tie.Need-returns
 returns c = search needs
 
 returns-2 : tie.Need-returns-2
-returns-2 c = ap (λ x. orElse (verdictOf x) (verdictOf (c .before .before .before .args .b))) (sym (c .before .a .given .1))
+returns-2 c =
+    let entry = c .before .before .before in
+    ap (λ x. orElse (verdictOf x) (verdictOf (entry .args .b))) (sym (c .before .a .given .1))
 
 pub or-else-spec : {M : Type 1} → statement M
 or-else-spec = tie.close (tie.spec enum-told enum-known-a returns returns-2)

@@ -22,7 +22,10 @@ or-else-requires : tie.Need-or-else-requires
 or-else-requires c κs = search needs
 
 returns : tie.Need-returns
-returns c = let a = c .before .before .before .args in join (variable (a .variables) (a .at + 1) (a .x) ∷ []) (variable (a .variables) (a .at + 2) (a .y) ∷ []) _ _ _ (c .or-else .ensures) (c .before .before .variable-named .ensures) (c .before .variable-named2 .ensures)
+returns c =
+    let at-before = c .before .before in
+    let entry = at-before .before in
+    let a = entry .args in join (variable (a .variables) (a .at + 1) (a .x) ∷ []) (variable (a .variables) (a .at + 2) (a .y) ∷ []) _ _ _ (c .or-else .ensures) (at-before .variable-named .ensures) (c .before .variable-named2 .ensures)
 
 pub two-named-spec : {M : Type 1} → statement M
 two-named-spec =

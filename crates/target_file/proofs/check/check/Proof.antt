@@ -9,37 +9,37 @@ use Rattle.target_file.proofs.check.check.Lts as lts
 use Rattle.target_file.proofs.check.names_checked.Reads as names-checked-reads
 use Rattle.target_file.proofs.layout.code_end.Reads as code-end-reads
 
--- src/check.rt:34:9
 returns : tie.Need-returns
 returns c = check-long _ (c .if1 .taken)
 
--- src/check.rt:39:34
 slice-aggregate-code-end : tie.Need-slice-aggregate-code-end
 slice-aggregate-code-end c = search needs
 
--- src/check.rt:39:11
 code-end-requires : tie.Need-code-end-requires
 code-end-requires c κs = search needs
 
--- src/check.rt:40:26
 enum-told : tie.Need-enum-told
 enum-told c = search needs
 
--- src/check.rt:40:26
 names-checked-requires : tie.Need-names-checked-requires
-names-checked-requires c κs = laid-out _ _ (c .before .before .before .before .if1 .left) (sym (c .before .before .code-end .ensures) ∙ c .enum-told .given .1)
+names-checked-requires c κs =
+    let at-if1 = c .before .before .before .before in
+    laid-out _ _ (at-if1 .if1 .left) (sym (c .before .before .code-end .ensures) ∙ c .enum-told .given .1)
 
--- src/check.rt:41:23
 enum-known-r : tie.Need-enum-known-r
 enum-known-r c = search needs
 
--- src/check.rt:30:1
 returns-2 : tie.Need-returns-2
-returns-2 c = c .names-checked .ensures ∙ check-names _ _ (c .before .before .before .before .before .if1 .left) (sym (c .before .before .before .code-end .ensures) ∙ c .before .enum-told .given .1)
+returns-2 c =
+    let at-code-end = c .before .before .before in
+    let at-if1 = at-code-end .before .before in
+    c .names-checked .ensures ∙ check-names _ _ (at-if1 .if1 .left) (sym (at-code-end .code-end .ensures) ∙ c .before .enum-told .given .1)
 
--- src/check.rt:30:1
 returns-3 : tie.Need-returns-3
-returns-3 c = check-stop _ _ (c .before .before .before .before .before .if1 .left) (sym (c .before .before .before .code-end .ensures) ∙ c .before .r .given .1)
+returns-3 c =
+    let at-code-end = c .before .before .before in
+    let at-if1 = at-code-end .before .before in
+    check-stop _ _ (at-if1 .if1 .left) (sym (at-code-end .code-end .ensures) ∙ c .before .r .given .1)
 
 pub check-spec : {M : Type 1} → statement M
 check-spec =

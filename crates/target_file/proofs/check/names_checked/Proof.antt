@@ -12,49 +12,61 @@ use Rattle.target_file.proofs.layout.code_end.Reads as code-end-reads
 use Rattle.target_file.proofs.tables.tables_of.Reads as tables-of-reads
 use Rattle.target_tags.proofs.tag.pair.Reads as pair-reads
 
--- src/check.rt:20:9
+-- Ways back to earlier places that several answers take.
+abbrev tables-of-before-pair : tie.After-pair → tie.After-tables-of
+tables-of-before-pair c = c .before .before .before .before
+
 tables-of-requires : tie.Need-tables-of-requires
 tables-of-requires c κs = search needs
 
--- src/check.rt:22:23
 shared-slice-read-pair : tie.Need-shared-slice-read-pair
-shared-slice-read-pair c = let f = laid-file _ (c .before .before .before .before .pre) in let w = f .whole in omega arith
+shared-slice-read-pair c =
+    let entry = c .before .before .before .before in
+    let f = laid-file _ (entry .pre) in let w = f .whole in omega arith
 
--- src/check.rt:22:32
 shared-slice-read-pair-2 : tie.Need-shared-slice-read-pair-2
-shared-slice-read-pair-2 c = let f = laid-file _ (c .before .before .before .before .before .pre) in let w = f .whole in omega arith
+shared-slice-read-pair-2 c =
+    let entry = c .before .before .before .before .before in
+    let f = laid-file _ (entry .pre) in let w = f .whole in omega arith
 
--- src/check.rt:22:9
 pair-requires : tie.Need-pair-requires
 pair-requires c κs = search needs
 
--- src/check.rt:23:34
 array-share-prefix-params : tie.Need-array-share-prefix-params
-array-share-prefix-params c = let f = laid-file _ (c .before .before .before .before .before .before .pre) in let n = (c .pair .ensures ∙ laid-file _ (c .before .before .before .before .before .before .pre) .counted) in let m = f .most in let b = c .before .before .before .before .tables-of .ensures .broad in omega (arith, n, b)
+array-share-prefix-params c =
+    let at-tables-of = tables-of-before-pair c in
+    let entry = at-tables-of .before .before in
+    let f = laid-file _ (entry .pre) in let n = (c .pair .ensures ∙ laid-file _ (entry .pre) .counted) in let m = f .most in let b = at-tables-of .tables-of .ensures .broad in omega (arith, n, b)
 
--- src/check.rt:23:34
 slice-aggregate-code-end : tie.Need-slice-aggregate-code-end
-slice-aggregate-code-end c = let f = laid-file _ (c .before .before .before .before .before .before .before .pre) in let n = (c .before .pair .ensures ∙ laid-file _ (c .before .before .before .before .before .before .before .pre) .counted) in let m = f .most in let b = c .before .before .before .before .before .tables-of .ensures .broad in sym (length-take-le _ _ (omega (arith, n, b)))
+slice-aggregate-code-end c =
+    let at-tables-of = c .before .before .before .before .before in
+    let entry = at-tables-of .before .before in
+    let f = laid-file _ (entry .pre) in let n = (c .before .pair .ensures ∙ laid-file _ (entry .pre) .counted) in let m = f .most in let b = at-tables-of .tables-of .ensures .broad in sym (length-take-le _ _ (omega (arith, n, b)))
 
--- src/check.rt:23:11
 code-end-requires : tie.Need-code-end-requires
 code-end-requires c κs = search needs
 
--- src/check.rt:24:26
 enum-told : tie.Need-enum-told
 enum-told c = search needs
 
--- src/check.rt:25:23
 enum-known-r : tie.Need-enum-known-r
 enum-known-r c = search needs
 
--- src/check.rt:16:1
 returns : tie.Need-returns
-returns c = names-past _ _ _ _ (c .before .before .before .before .pair .ensures ∙ laid-file _ (c .before .before .before .before .before .before .before .before .before .before .pre) .counted) refl (c .before .before .before .before .before .before .before .before .tables-of .ensures .counts) _ (sym (c .before .before .code-end .ensures) ∙ c .enum-told .given .1)
+returns c =
+    let at-pair = c .before .before .before .before in
+    let at-tables-of = tables-of-before-pair at-pair in
+    let entry = at-tables-of .before .before in
+    names-past _ _ _ _ (at-pair .pair .ensures ∙ laid-file _ (entry .pre) .counted) refl (at-tables-of .tables-of .ensures .counts) _ (sym (c .before .before .code-end .ensures) ∙ c .enum-told .given .1)
 
--- src/check.rt:16:1
 returns-2 : tie.Need-returns-2
-returns-2 c = names-stop _ _ _ _ (c .before .before .before .before .before .pair .ensures ∙ laid-file _ (c .before .before .before .before .before .before .before .before .before .before .before .pre) .counted) refl (c .before .before .before .before .before .before .before .before .before .tables-of .ensures .counts) _ (sym (c .before .before .before .code-end .ensures) ∙ c .before .r .given .1)
+returns-2 c =
+    let at-code-end = c .before .before .before in
+    let at-pair = at-code-end .before .before in
+    let at-tables-of = tables-of-before-pair at-pair in
+    let entry = at-tables-of .before .before in
+    names-stop _ _ _ _ (at-pair .pair .ensures ∙ laid-file _ (entry .pre) .counted) refl (at-tables-of .tables-of .ensures .counts) _ (sym (at-code-end .code-end .ensures) ∙ c .before .r .given .1)
 
 pub names-checked-spec : {M : Type 1} → statement M
 names-checked-spec =

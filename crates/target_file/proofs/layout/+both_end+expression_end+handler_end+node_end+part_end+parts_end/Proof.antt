@@ -113,135 +113,72 @@ abbrev parts-end-below : ℕ → In 2 parts-end-kinds.ps
 parts-end-below t =
     and 2 parts-end-kinds.ps (falls 2 parts-end-kinds.ps _<_ μ-parts-end t) parts-end.Pre
 
--- src/layout.rt:226:28
-both-end-bind-requires : (t : ℕ) → both-end-lts.Need-bind-requires (
-  bind-reads.Asked,
-  bind-reads.Learnt,
-  part-end-below t,
-  part-end.Post,
-  handler-end-below t,
-  handler-end.Post,
-  onward-reads.Asked,
-  onward-reads.Learnt,
-) (both-end-at t) both-end.Post
+-- What each member is told of its callees, by the cycle's measure t.
+abbrev both-end-claims : ℕ → both-end-lts.Claims
+both-end-claims t = (bind-reads.Asked, bind-reads.Learnt, part-end-below t, part-end.Post, handler-end-below t, handler-end.Post, onward-reads.Asked, onward-reads.Learnt)
+
+abbrev expression-end-claims : ℕ → expression-end-lts.Claims
+expression-end-claims t = (tag-at-reads.Asked, tag-at-reads.Learnt, node-end-below t, node-end.Post, bind-reads.Asked, bind-reads.Learnt)
+
+abbrev handler-end-claims : ℕ → handler-end-lts.Claims
+handler-end-claims t = (cut-reads.Asked, cut-reads.Learnt, pair-reads.Asked, pair-reads.Learnt, part-end-below t, part-end.Post)
+
+abbrev node-end-claims : ℕ → node-end-lts.Claims
+node-end-claims t = (judge-reads.Asked, judge-reads.Learnt, parts-end-below t, parts-end.Post)
+
+abbrev part-end-claims : ℕ → part-end-lts.Claims
+part-end-claims t = (cut-reads.Asked, cut-reads.Learnt, expression-end-below t, expression-end.Post, measured-end-reads.Asked, measured-end-reads.Learnt, stopped-reads.Asked, stopped-reads.Learnt)
+
+abbrev parts-end-claims : ℕ → parts-end-lts.Claims
+parts-end-claims t = (part-end-below t, part-end.Post, onward-reads.Asked, onward-reads.Learnt, bind-reads.Asked, bind-reads.Learnt, both-end-below t, both-end.Post)
+
+both-end-bind-requires : (t : ℕ) → both-end-lts.Need-bind-requires (both-end-claims t) (both-end-at t) both-end.Post
 both-end-bind-requires t c κs = tt
 
--- src/layout.rt:226:9
-both-end-bind-requires-2 : (t : ℕ) → both-end-lts.Need-bind-requires-2 (
-  bind-reads.Asked,
-  bind-reads.Learnt,
-  part-end-below t,
-  part-end.Post,
-  handler-end-below t,
-  handler-end.Post,
-  onward-reads.Asked,
-  onward-reads.Learnt,
-) (both-end-at t) both-end.Post
+both-end-bind-requires-2 : (t : ℕ) → both-end-lts.Need-bind-requires-2 (both-end-claims t) (both-end-at t) both-end.Post
 both-end-bind-requires-2 t c κs = tt
 
--- src/layout.rt:227:66
-both-end-add-part-end : (t : ℕ) → both-end-lts.Need-add-part-end (
-  bind-reads.Asked,
-  bind-reads.Learnt,
-  part-end-below t,
-  part-end.Post,
-  handler-end-below t,
-  handler-end.Post,
-  onward-reads.Asked,
-  onward-reads.Learnt,
-) (both-end-at t) both-end.Post
-both-end-add-part-end t c = let p = c .before .before .before .before .pre .1 in omega (arith, p .0, p .1 .0, p .1 .1)
+both-end-add-part-end : (t : ℕ) → both-end-lts.Need-add-part-end (both-end-claims t) (both-end-at t) both-end.Post
+both-end-add-part-end t c =
+    let entry = c .before .before .before .before in
+    let p = entry .pre .1 in omega (arith, p .0, p .1 .0, p .1 .1)
 
--- src/layout.rt:227:11
-both-end-part-end-requires : (t : ℕ) → both-end-lts.Need-part-end-requires (
-  bind-reads.Asked,
-  bind-reads.Learnt,
-  part-end-below t,
-  part-end.Post,
-  handler-end-below t,
-  handler-end.Post,
-  onward-reads.Asked,
-  onward-reads.Learnt,
-) (both-end-at t) both-end.Post
-both-end-part-end-requires t c κs = let q = c .before .before .before .before .pre .0 in let p = c .before .before .before .before .pre .1 in (omega (arith, q, p .1 .0, p .1 .1), p .0)
+both-end-part-end-requires : (t : ℕ) → both-end-lts.Need-part-end-requires (both-end-claims t) (both-end-at t) both-end.Post
+both-end-part-end-requires t c κs =
+    let entry = c .before .before .before .before in
+    let q = entry .pre .0 in let p = entry .pre .1 in (omega (arith, q, p .1 .0, p .1 .1), p .0)
 
--- src/layout.rt:228:20
-both-end-enum-known-middle : (t : ℕ) → both-end-lts.Need-enum-known-middle (
-  bind-reads.Asked,
-  bind-reads.Learnt,
-  part-end-below t,
-  part-end.Post,
-  handler-end-below t,
-  handler-end.Post,
-  onward-reads.Asked,
-  onward-reads.Learnt,
-) (both-end-at t) both-end.Post
+both-end-enum-known-middle : (t : ℕ) → both-end-lts.Need-enum-known-middle (both-end-claims t) (both-end-at t) both-end.Post
 both-end-enum-known-middle t c = search needs
 
--- src/layout.rt:229:17
-both-end-handler-end-requires : (t : ℕ) → both-end-lts.Need-handler-end-requires (
-  bind-reads.Asked,
-  bind-reads.Learnt,
-  part-end-below t,
-  part-end.Post,
-  handler-end-below t,
-  handler-end.Post,
-  onward-reads.Asked,
-  onward-reads.Learnt,
-) (both-end-at t) both-end.Post
-both-end-handler-end-requires t c κs = let q = c .before .before .before .before .before .before .before .before .pre .0 in let p = c .before .before .before .before .before .before .before .before .pre .1 in let w = part-past _ _ _ _ _ _ _ _ _ (sym (c .before .before .before .part-end .ensures) ∙ c .before .middle .given .1) in (omega (arith, q, p .1 .0, p .1 .1, w .fills), p .0)
+both-end-handler-end-requires : (t : ℕ) → both-end-lts.Need-handler-end-requires (both-end-claims t) (both-end-at t) both-end.Post
+both-end-handler-end-requires t c κs =
+    let at-part-end = c .before .before .before in
+    let entry = at-part-end .before .before .before .before .before in
+    let q = entry .pre .0 in let p = entry .pre .1 in let w = part-past _ _ _ _ _ _ _ _ _ (sym (at-part-end .part-end .ensures) ∙ c .before .middle .given .1) in (omega (arith, q, p .1 .0, p .1 .1, w .fills), p .0)
 
--- src/layout.rt:230:13
-both-end-onward-requires : (t : ℕ) → both-end-lts.Need-onward-requires (
-  bind-reads.Asked,
-  bind-reads.Learnt,
-  part-end-below t,
-  part-end.Post,
-  handler-end-below t,
-  handler-end.Post,
-  onward-reads.Asked,
-  onward-reads.Learnt,
-) (both-end-at t) both-end.Post
+both-end-onward-requires : (t : ℕ) → both-end-lts.Need-onward-requires (both-end-claims t) (both-end-at t) both-end.Post
 both-end-onward-requires t c κs = tt
 
--- src/layout.rt:232:23
-both-end-enum-known-r : (t : ℕ) → both-end-lts.Need-enum-known-r (
-  bind-reads.Asked,
-  bind-reads.Learnt,
-  part-end-below t,
-  part-end.Post,
-  handler-end-below t,
-  handler-end.Post,
-  onward-reads.Asked,
-  onward-reads.Learnt,
-) (both-end-at t) both-end.Post
+both-end-enum-known-r : (t : ℕ) → both-end-lts.Need-enum-known-r (both-end-claims t) (both-end-at t) both-end.Post
 both-end-enum-known-r t c = search needs
 
--- src/layout.rt:208:1
-both-end-returns : (t : ℕ) → both-end-lts.Need-returns (
-  bind-reads.Asked,
-  bind-reads.Learnt,
-  part-end-below t,
-  part-end.Post,
-  handler-end-below t,
-  handler-end.Post,
-  onward-reads.Asked,
-  onward-reads.Learnt,
-) (both-end-at t) both-end.Post
-both-end-returns t c = both-on _ _ _ _ _ _ _ _ _ _ _ _ (c .before .before .before .before .before .before .bind2 .ensures ∙ ap (λ l. bound l (c .before .before .before .before .before .before .before .before .before .before .args .handler) 3) (c .before .before .before .before .before .before .before .bind .ensures)) _ (sym (c .before .before .before .before .before .part-end .ensures) ∙ c .before .before .before .middle .given .1) (c .onward .ensures) (c .before .handler-end .ensures)
+both-end-returns : (t : ℕ) → both-end-lts.Need-returns (both-end-claims t) (both-end-at t) both-end.Post
+both-end-returns t c =
+    let at-middle = c .before .before .before in
+    let at-part-end = at-middle .before .before in
+    let at-bind2 = at-part-end .before in
+    let at-bind = at-bind2 .before in
+    let entry = at-bind .before .before .before in
+    both-on _ _ _ _ _ _ _ _ _ _ _ _ (at-bind2 .bind2 .ensures ∙ ap (λ l. bound l (entry .args .handler) 3) (at-bind .bind .ensures)) _ (sym (at-part-end .part-end .ensures) ∙ at-middle .middle .given .1) (c .onward .ensures) (c .before .handler-end .ensures)
 
--- src/layout.rt:208:1
-both-end-returns-2 : (t : ℕ) → both-end-lts.Need-returns-2 (
-  bind-reads.Asked,
-  bind-reads.Learnt,
-  part-end-below t,
-  part-end.Post,
-  handler-end-below t,
-  handler-end.Post,
-  onward-reads.Asked,
-  onward-reads.Learnt,
-) (both-end-at t) both-end.Post
-both-end-returns-2 t c = both-stop _ _ _ _ _ _ _ _ _ _ _ _ (c .before .before .before .before .bind2 .ensures ∙ ap (λ l. bound l (c .before .before .before .before .before .before .before .before .args .handler) 3) (c .before .before .before .before .before .bind .ensures)) _ (sym (c .before .before .before .part-end .ensures) ∙ c .before .r .given .1)
+both-end-returns-2 : (t : ℕ) → both-end-lts.Need-returns-2 (both-end-claims t) (both-end-at t) both-end.Post
+both-end-returns-2 t c =
+    let at-part-end = c .before .before .before in
+    let at-bind2 = at-part-end .before in
+    let at-bind = at-bind2 .before in
+    let entry = at-bind .before .before .before in
+    both-stop _ _ _ _ _ _ _ _ _ _ _ _ (at-bind2 .bind2 .ensures ∙ ap (λ l. bound l (entry .args .handler) 3) (at-bind .bind .ensures)) _ (sym (at-part-end .part-end .ensures) ∙ c .before .r .given .1)
 
 abbrev expression-end-Inv-loop : expression-end-lts.InvT-loop
 expression-end-Inv-loop file params names level start at₀ seen₀ at seen =
@@ -250,776 +187,265 @@ expression-end-Inv-loop file params names level start at₀ seen₀ at seen =
 abbrev expression-end-μ-loop : expression-end-lts.MeasureT-loop
 expression-end-μ-loop file params names level start at₀ seen₀ at seen = length file - at
 
--- src/layout.rt:83:5
-expression-end-loop-holds : (t : ℕ) → expression-end-lts.Need-loop-holds (
-  tag-at-reads.Asked,
-  tag-at-reads.Learnt,
-  node-end-below t,
-  node-end.Post,
-  bind-reads.Asked,
-  bind-reads.Learnt,
-) (expression-end-at t) expression-end.Post expression-end-Inv-loop expression-end-μ-loop
+expression-end-loop-holds : (t : ℕ) → expression-end-lts.Need-loop-holds (expression-end-claims t) (expression-end-at t) expression-end.Post expression-end-Inv-loop expression-end-μ-loop
 expression-end-loop-holds t c = (omega arith, c .before .before .pre .1 .1, refl)
 
--- src/layout.rt:84:13
-expression-end-tag-at-requires : (t : ℕ) → expression-end-lts.Need-tag-at-requires (
-  tag-at-reads.Asked,
-  tag-at-reads.Learnt,
-  node-end-below t,
-  node-end.Post,
-  bind-reads.Asked,
-  bind-reads.Learnt,
-) (expression-end-at t) expression-end.Post expression-end-Inv-loop expression-end-μ-loop
+expression-end-tag-at-requires : (t : ℕ) → expression-end-lts.Need-tag-at-requires (expression-end-claims t) (expression-end-at t) expression-end.Post expression-end-Inv-loop expression-end-μ-loop
 expression-end-tag-at-requires t c κs = tt
 
--- src/layout.rt:85:15
-expression-end-node-end-requires : (t : ℕ) → expression-end-lts.Need-node-end-requires (
-  tag-at-reads.Asked,
-  tag-at-reads.Learnt,
-  node-end-below t,
-  node-end.Post,
-  bind-reads.Asked,
-  bind-reads.Learnt,
-) (expression-end-at t) expression-end.Post expression-end-Inv-loop expression-end-μ-loop
-expression-end-node-end-requires t c κs = let q = c .before .before .before .before .pre .0 in let p = c .before .before .before .before .pre .1 in let v = c .before .loop .inv in (omega (arith, q, v .0, v .1), (p .0, record { small = omega (arith, p .0, v .1); is = c .tag-at .ensures }))
+expression-end-node-end-requires : (t : ℕ) → expression-end-lts.Need-node-end-requires (expression-end-claims t) (expression-end-at t) expression-end.Post expression-end-Inv-loop expression-end-μ-loop
+expression-end-node-end-requires t c κs =
+    let entry = c .before .before .before .before in
+    let q = entry .pre .0 in let p = entry .pre .1 in let v = c .before .loop .inv in (omega (arith, q, v .0, v .1), (p .0, record { small = omega (arith, p .0, v .1); is = c .tag-at .ensures }))
 
--- src/layout.rt:86:29
-expression-end-enum-known-next : (t : ℕ) → expression-end-lts.Need-enum-known-next (
-  tag-at-reads.Asked,
-  tag-at-reads.Learnt,
-  node-end-below t,
-  node-end.Post,
-  bind-reads.Asked,
-  bind-reads.Learnt,
-) (expression-end-at t) expression-end.Post expression-end-Inv-loop expression-end-μ-loop
+expression-end-enum-known-next : (t : ℕ) → expression-end-lts.Need-enum-known-next (expression-end-claims t) (expression-end-at t) expression-end.Post expression-end-Inv-loop expression-end-μ-loop
 expression-end-enum-known-next t c = search needs
 
--- src/layout.rt:87:21
-expression-end-bind-requires : (t : ℕ) → expression-end-lts.Need-bind-requires (
-  tag-at-reads.Asked,
-  tag-at-reads.Learnt,
-  node-end-below t,
-  node-end.Post,
-  bind-reads.Asked,
-  bind-reads.Learnt,
-) (expression-end-at t) expression-end.Post expression-end-Inv-loop expression-end-μ-loop
+expression-end-bind-requires : (t : ℕ) → expression-end-lts.Need-bind-requires (expression-end-claims t) (expression-end-at t) expression-end.Post expression-end-Inv-loop expression-end-μ-loop
 expression-end-bind-requires t c κs = tt
 
--- src/layout.rt:83:5
-expression-end-loop-less : (t : ℕ) → expression-end-lts.Need-loop-less (
-  tag-at-reads.Asked,
-  tag-at-reads.Learnt,
-  node-end-below t,
-  node-end.Post,
-  bind-reads.Asked,
-  bind-reads.Learnt,
-) (expression-end-at t) expression-end.Post expression-end-Inv-loop expression-end-μ-loop
-expression-end-loop-less t c = let m = onward-moves _ _ _ _ _ _ (c .before .before .before .before .before .tag-at .ensures) (c .before .before .before .before .node-end .ensures) _ _ (c .before .before .next .given .1) in omega (arith, m .here, m .forward)
+expression-end-loop-less : (t : ℕ) → expression-end-lts.Need-loop-less (expression-end-claims t) (expression-end-at t) expression-end.Post expression-end-Inv-loop expression-end-μ-loop
+expression-end-loop-less t c =
+    let at-node-end = c .before .before .before .before in
+    let at-tag-at = at-node-end .before in
+    let m = onward-moves _ _ _ _ _ _ (at-tag-at .tag-at .ensures) (at-node-end .node-end .ensures) _ _ (c .before .before .next .given .1) in omega (arith, m .here, m .forward)
 
--- src/layout.rt:83:5
-expression-end-loop-again : (t : ℕ) → expression-end-lts.Need-loop-again (
-  tag-at-reads.Asked,
-  tag-at-reads.Learnt,
-  node-end-below t,
-  node-end.Post,
-  bind-reads.Asked,
-  bind-reads.Learnt,
-) (expression-end-at t) expression-end.Post expression-end-Inv-loop expression-end-μ-loop
-expression-end-loop-again t c = let m = onward-moves _ _ _ _ _ _ (c .before .before .before .before .before .tag-at .ensures) (c .before .before .before .before .node-end .ensures) _ _ (c .before .before .next .given .1) in let v = c .before .before .before .before .before .before .loop .inv in (omega (arith, v .0, m .forward), m .inside, expression-onward _ _ _ _ _ _ (c .before .before .before .before .before .tag-at .ensures) (c .before .before .before .before .node-end .ensures) _ _ _ (c .before .before .next .given .1) (c .bind .ensures) ∙ v .2)
+expression-end-loop-again : (t : ℕ) → expression-end-lts.Need-loop-again (expression-end-claims t) (expression-end-at t) expression-end.Post expression-end-Inv-loop expression-end-μ-loop
+expression-end-loop-again t c =
+    let at-next = c .before .before in
+    let at-node-end = at-next .before .before in
+    let at-tag-at = at-node-end .before in
+    let at-loop = at-tag-at .before in
+    let m = onward-moves _ _ _ _ _ _ (at-tag-at .tag-at .ensures) (at-node-end .node-end .ensures) _ _ (at-next .next .given .1) in let v = at-loop .loop .inv in (omega (arith, v .0, m .forward), m .inside, expression-onward _ _ _ _ _ _ (at-tag-at .tag-at .ensures) (at-node-end .node-end .ensures) _ _ _ (at-next .next .given .1) (c .bind .ensures) ∙ v .2)
 
--- src/layout.rt:91:26
-expression-end-enum-known-next-2 : (t : ℕ) → expression-end-lts.Need-enum-known-next-2 (
-  tag-at-reads.Asked,
-  tag-at-reads.Learnt,
-  node-end-below t,
-  node-end.Post,
-  bind-reads.Asked,
-  bind-reads.Learnt,
-) (expression-end-at t) expression-end.Post expression-end-Inv-loop expression-end-μ-loop
+expression-end-enum-known-next-2 : (t : ℕ) → expression-end-lts.Need-enum-known-next-2 (expression-end-claims t) (expression-end-at t) expression-end.Post expression-end-Inv-loop expression-end-μ-loop
 expression-end-enum-known-next-2 t c = search needs
 
--- src/layout.rt:92:17
-expression-end-returns : (t : ℕ) → expression-end-lts.Need-returns (
-  tag-at-reads.Asked,
-  tag-at-reads.Learnt,
-  node-end-below t,
-  node-end.Post,
-  bind-reads.Asked,
-  bind-reads.Learnt,
-) (expression-end-at t) expression-end.Post expression-end-Inv-loop expression-end-μ-loop
-expression-end-returns t c = expression-ended _ _ _ _ _ _ (c .before .before .before .before .tag-at .ensures) (c .before .before .before .node-end .ensures) _ (c .before .next2 .given .1) ∙ c .before .before .before .before .before .loop .inv .2
+expression-end-returns : (t : ℕ) → expression-end-lts.Need-returns (expression-end-claims t) (expression-end-at t) expression-end.Post expression-end-Inv-loop expression-end-μ-loop
+expression-end-returns t c =
+    let at-node-end = c .before .before .before in
+    let at-tag-at = at-node-end .before in
+    let at-loop = at-tag-at .before in
+    expression-ended _ _ _ _ _ _ (at-tag-at .tag-at .ensures) (at-node-end .node-end .ensures) _ (c .before .next2 .given .1) ∙ at-loop .loop .inv .2
 
--- src/layout.rt:94:27
-expression-end-enum-known-r : (t : ℕ) → expression-end-lts.Need-enum-known-r (
-  tag-at-reads.Asked,
-  tag-at-reads.Learnt,
-  node-end-below t,
-  node-end.Post,
-  bind-reads.Asked,
-  bind-reads.Learnt,
-) (expression-end-at t) expression-end.Post expression-end-Inv-loop expression-end-μ-loop
+expression-end-enum-known-r : (t : ℕ) → expression-end-lts.Need-enum-known-r (expression-end-claims t) (expression-end-at t) expression-end.Post expression-end-Inv-loop expression-end-μ-loop
 expression-end-enum-known-r t c = search needs
 
--- src/layout.rt:95:17
-expression-end-returns-2 : (t : ℕ) → expression-end-lts.Need-returns-2 (
-  tag-at-reads.Asked,
-  tag-at-reads.Learnt,
-  node-end-below t,
-  node-end.Post,
-  bind-reads.Asked,
-  bind-reads.Learnt,
-) (expression-end-at t) expression-end.Post expression-end-Inv-loop expression-end-μ-loop
-expression-end-returns-2 t c = expression-halted _ _ _ _ _ _ (c .before .before .before .before .tag-at .ensures) (c .before .before .before .node-end .ensures) _ (c .before .r .given .1) ∙ c .before .before .before .before .before .loop .inv .2
+expression-end-returns-2 : (t : ℕ) → expression-end-lts.Need-returns-2 (expression-end-claims t) (expression-end-at t) expression-end.Post expression-end-Inv-loop expression-end-μ-loop
+expression-end-returns-2 t c =
+    let at-node-end = c .before .before .before in
+    let at-tag-at = at-node-end .before in
+    let at-loop = at-tag-at .before in
+    expression-halted _ _ _ _ _ _ (at-tag-at .tag-at .ensures) (at-node-end .node-end .ensures) _ (c .before .r .given .1) ∙ at-loop .loop .inv .2
 
--- src/layout.rt:249:9
-handler-end-cut-requires : (t : ℕ) → handler-end-lts.Need-cut-requires (
-  cut-reads.Asked,
-  cut-reads.Learnt,
-  pair-reads.Asked,
-  pair-reads.Learnt,
-  part-end-below t,
-  part-end.Post,
-) (handler-end-at t) handler-end.Post
+handler-end-cut-requires : (t : ℕ) → handler-end-lts.Need-cut-requires (handler-end-claims t) (handler-end-at t) handler-end.Post
 handler-end-cut-requires t c κs = tt
 
--- src/layout.rt:249:9
-handler-end-returns : (t : ℕ) → handler-end-lts.Need-returns (
-  cut-reads.Asked,
-  cut-reads.Learnt,
-  pair-reads.Asked,
-  pair-reads.Learnt,
-  part-end-below t,
-  part-end.Post,
-) (handler-end-at t) handler-end.Post
+handler-end-returns : (t : ℕ) → handler-end-lts.Need-returns (handler-end-claims t) (handler-end-at t) handler-end.Post
 handler-end-returns t c = let h = c .before .if1 .taken in c .cut .ensures ∙ handler-cut _ _ _ _ _ _ (omega arith)
 
--- src/layout.rt:251:17
-handler-end-add-start : (t : ℕ) → handler-end-lts.Need-add-start (
-  cut-reads.Asked,
-  cut-reads.Learnt,
-  pair-reads.Asked,
-  pair-reads.Learnt,
-  part-end-below t,
-  part-end.Post,
-) (handler-end-at t) handler-end.Post
+handler-end-add-start : (t : ℕ) → handler-end-lts.Need-add-start (handler-end-claims t) (handler-end-at t) handler-end.Post
 handler-end-add-start t c = search needs
 
--- src/layout.rt:253:9
-handler-end-cut-requires-2 : (t : ℕ) → handler-end-lts.Need-cut-requires-2 (
-  cut-reads.Asked,
-  cut-reads.Learnt,
-  pair-reads.Asked,
-  pair-reads.Learnt,
-  part-end-below t,
-  part-end.Post,
-) (handler-end-at t) handler-end.Post
+handler-end-cut-requires-2 : (t : ℕ) → handler-end-lts.Need-cut-requires-2 (handler-end-claims t) (handler-end-at t) handler-end.Post
 handler-end-cut-requires-2 t c κs = tt
 
--- src/layout.rt:253:9
-handler-end-returns-2 : (t : ℕ) → handler-end-lts.Need-returns-2 (
-  cut-reads.Asked,
-  cut-reads.Learnt,
-  pair-reads.Asked,
-  pair-reads.Learnt,
-  part-end-below t,
-  part-end.Post,
-) (handler-end-at t) handler-end.Post
+handler-end-returns-2 : (t : ℕ) → handler-end-lts.Need-returns-2 (handler-end-claims t) (handler-end-at t) handler-end.Post
 handler-end-returns-2 t c = c .cut2 .ensures ∙ handler-cut _ _ _ _ _ _ (c .before .if2 .taken)
 
--- src/layout.rt:255:26
-handler-end-shared-slice-read-pair : (t : ℕ) → handler-end-lts.Need-shared-slice-read-pair (
-  cut-reads.Asked,
-  cut-reads.Learnt,
-  pair-reads.Asked,
-  pair-reads.Learnt,
-  part-end-below t,
-  part-end.Post,
-) (handler-end-at t) handler-end.Post
+handler-end-shared-slice-read-pair : (t : ℕ) → handler-end-lts.Need-shared-slice-read-pair (handler-end-claims t) (handler-end-at t) handler-end.Post
 handler-end-shared-slice-read-pair t c = search needs
 
--- src/layout.rt:255:41
-handler-end-add-pair : (t : ℕ) → handler-end-lts.Need-add-pair (
-  cut-reads.Asked,
-  cut-reads.Learnt,
-  pair-reads.Asked,
-  pair-reads.Learnt,
-  part-end-below t,
-  part-end.Post,
-) (handler-end-at t) handler-end.Post
+handler-end-add-pair : (t : ℕ) → handler-end-lts.Need-add-pair (handler-end-claims t) (handler-end-at t) handler-end.Post
 handler-end-add-pair t c = search needs
 
--- src/layout.rt:255:36
-handler-end-shared-slice-read-pair-2 : (t : ℕ) → handler-end-lts.Need-shared-slice-read-pair-2 (
-  cut-reads.Asked,
-  cut-reads.Learnt,
-  pair-reads.Asked,
-  pair-reads.Learnt,
-  part-end-below t,
-  part-end.Post,
-) (handler-end-at t) handler-end.Post
+handler-end-shared-slice-read-pair-2 : (t : ℕ) → handler-end-lts.Need-shared-slice-read-pair-2 (handler-end-claims t) (handler-end-at t) handler-end.Post
 handler-end-shared-slice-read-pair-2 t c = search needs
 
--- src/layout.rt:255:9
-handler-end-pair-requires : (t : ℕ) → handler-end-lts.Need-pair-requires (
-  cut-reads.Asked,
-  cut-reads.Learnt,
-  pair-reads.Asked,
-  pair-reads.Learnt,
-  part-end-below t,
-  part-end.Post,
-) (handler-end-at t) handler-end.Post
+handler-end-pair-requires : (t : ℕ) → handler-end-lts.Need-pair-requires (handler-end-claims t) (handler-end-at t) handler-end.Post
 handler-end-pair-requires t c κs = tt
 
--- src/layout.rt:256:5
-handler-end-part-end-requires : (t : ℕ) → handler-end-lts.Need-part-end-requires (
-  cut-reads.Asked,
-  cut-reads.Learnt,
-  pair-reads.Asked,
-  pair-reads.Learnt,
-  part-end-below t,
-  part-end.Post,
-) (handler-end-at t) handler-end.Post
-handler-end-part-end-requires t c κs = let q = c .before .before .before .before .before .before .before .pre .0 in (omega (arith, q), c .before .before .before .before .before .before .before .pre .1)
+handler-end-part-end-requires : (t : ℕ) → handler-end-lts.Need-part-end-requires (handler-end-claims t) (handler-end-at t) handler-end.Post
+handler-end-part-end-requires t c κs =
+    let entry = c .before .before .before .before .before .before .before in
+    let q = entry .pre .0 in (omega (arith, q), entry .pre .1)
 
--- src/layout.rt:237:1
-handler-end-returns-3 : (t : ℕ) → handler-end-lts.Need-returns-3 (
-  cut-reads.Asked,
-  cut-reads.Learnt,
-  pair-reads.Asked,
-  pair-reads.Learnt,
-  part-end-below t,
-  part-end.Post,
-) (handler-end-at t) handler-end.Post
-handler-end-returns-3 t c = c .part-end .ensures ∙ handler-in _ _ _ _ _ _ _ (c .before .before .before .before .if2 .left) (c .before .pair .ensures)
+handler-end-returns-3 : (t : ℕ) → handler-end-lts.Need-returns-3 (handler-end-claims t) (handler-end-at t) handler-end.Post
+handler-end-returns-3 t c =
+    let at-if2 = c .before .before .before .before in
+    c .part-end .ensures ∙ handler-in _ _ _ _ _ _ _ (at-if2 .if2 .left) (c .before .pair .ensures)
 
--- src/layout.rt:115:11
-node-end-judge-requires : (t : ℕ) → node-end-lts.Need-judge-requires (
-  judge-reads.Asked,
-  judge-reads.Learnt,
-  parts-end-below t,
-  parts-end.Post,
-) (node-end-at t) node-end.Post
+node-end-judge-requires : (t : ℕ) → node-end-lts.Need-judge-requires (node-end-claims t) (node-end-at t) node-end.Post
 node-end-judge-requires t c κs = c .before .before .pre .1 .1
 
--- src/layout.rt:116:30
-node-end-enum-told : (t : ℕ) → node-end-lts.Need-enum-told (
-  judge-reads.Asked,
-  judge-reads.Learnt,
-  parts-end-below t,
-  parts-end.Post,
-) (node-end-at t) node-end.Post
+node-end-enum-told : (t : ℕ) → node-end-lts.Need-enum-told (node-end-claims t) (node-end-at t) node-end.Post
 node-end-enum-told t c = search needs
 
--- src/layout.rt:116:30
-node-end-parts-end-requires : (t : ℕ) → node-end-lts.Need-parts-end-requires (
-  judge-reads.Asked,
-  judge-reads.Learnt,
-  parts-end-below t,
-  parts-end.Post,
-) (node-end-at t) node-end.Post
-node-end-parts-end-requires t c κs = let q = c .before .before .before .before .before .pre .0 in (omega (arith, q), c .before .before .before .before .before .pre .1)
+node-end-parts-end-requires : (t : ℕ) → node-end-lts.Need-parts-end-requires (node-end-claims t) (node-end-at t) node-end.Post
+node-end-parts-end-requires t c κs =
+    let entry = c .before .before .before .before .before in
+    let q = entry .pre .0 in (omega (arith, q), entry .pre .1)
 
--- src/layout.rt:117:26
-node-end-enum-known-r : (t : ℕ) → node-end-lts.Need-enum-known-r (
-  judge-reads.Asked,
-  judge-reads.Learnt,
-  parts-end-below t,
-  parts-end.Post,
-) (node-end-at t) node-end.Post
+node-end-enum-known-r : (t : ℕ) → node-end-lts.Need-enum-known-r (node-end-claims t) (node-end-at t) node-end.Post
 node-end-enum-known-r t c = search needs
 
--- src/layout.rt:102:1
-node-end-returns : (t : ℕ) → node-end-lts.Need-returns (
-  judge-reads.Asked,
-  judge-reads.Learnt,
-  parts-end-below t,
-  parts-end.Post,
-) (node-end-at t) node-end.Post
-node-end-returns t c = node-right _ _ _ _ _ _ _ (c .before .before .before .judge .ensures) (c .before .enum-told .given .1) (c .parts-end .ensures)
+node-end-returns : (t : ℕ) → node-end-lts.Need-returns (node-end-claims t) (node-end-at t) node-end.Post
+node-end-returns t c =
+    let at-judge = c .before .before .before in
+    node-right _ _ _ _ _ _ _ (at-judge .judge .ensures) (c .before .enum-told .given .1) (c .parts-end .ensures)
 
--- src/layout.rt:102:1
-node-end-returns-2 : (t : ℕ) → node-end-lts.Need-returns-2 (
-  judge-reads.Asked,
-  judge-reads.Learnt,
-  parts-end-below t,
-  parts-end.Post,
-) (node-end-at t) node-end.Post
-node-end-returns-2 t c = node-wrong _ _ _ _ _ _ _ (c .before .before .before .judge .ensures) _ (c .before .r .given .1)
+node-end-returns-2 : (t : ℕ) → node-end-lts.Need-returns-2 (node-end-claims t) (node-end-at t) node-end.Post
+node-end-returns-2 t c =
+    let at-judge = c .before .before .before in
+    node-wrong _ _ _ _ _ _ _ (at-judge .judge .ensures) _ (c .before .r .given .1)
 
--- src/layout.rt:274:9
-part-end-cut-requires : (t : ℕ) → part-end-lts.Need-cut-requires (
-  cut-reads.Asked,
-  cut-reads.Learnt,
-  expression-end-below t,
-  expression-end.Post,
-  measured-end-reads.Asked,
-  measured-end-reads.Learnt,
-  stopped-reads.Asked,
-  stopped-reads.Learnt,
-) (part-end-at t) part-end.Post
+part-end-cut-requires : (t : ℕ) → part-end-lts.Need-cut-requires (part-end-claims t) (part-end-at t) part-end.Post
 part-end-cut-requires t c κs = tt
 
--- src/layout.rt:274:9
-part-end-returns : (t : ℕ) → part-end-lts.Need-returns (
-  cut-reads.Asked,
-  cut-reads.Learnt,
-  expression-end-below t,
-  expression-end.Post,
-  measured-end-reads.Asked,
-  measured-end-reads.Learnt,
-  stopped-reads.Asked,
-  stopped-reads.Learnt,
-) (part-end-at t) part-end.Post
+part-end-returns : (t : ℕ) → part-end-lts.Need-returns (part-end-claims t) (part-end-at t) part-end.Post
 part-end-returns t c = c .cut .ensures ∙ part-cut _ _ _ _ _ _ _ _ (c .before .if1 .taken)
 
--- src/layout.rt:278:49
-part-end-add-expression-end : (t : ℕ) → part-end-lts.Need-add-expression-end (
-  cut-reads.Asked,
-  cut-reads.Learnt,
-  expression-end-below t,
-  expression-end.Post,
-  measured-end-reads.Asked,
-  measured-end-reads.Learnt,
-  stopped-reads.Asked,
-  stopped-reads.Learnt,
-) (part-end-at t) part-end.Post
+part-end-add-expression-end : (t : ℕ) → part-end-lts.Need-add-expression-end (part-end-claims t) (part-end-at t) part-end.Post
 part-end-add-expression-end t c = search needs
 
--- src/layout.rt:278:13
-part-end-expression-end-requires : (t : ℕ) → part-end-lts.Need-expression-end-requires (
-  cut-reads.Asked,
-  cut-reads.Learnt,
-  expression-end-below t,
-  expression-end.Post,
-  measured-end-reads.Asked,
-  measured-end-reads.Learnt,
-  stopped-reads.Asked,
-  stopped-reads.Learnt,
-) (part-end-at t) part-end.Post
-part-end-expression-end-requires t c κs = let q = c .before .before .before .before .pre .0 in let h = c .before .if1 .left in (omega (arith, q), (c .before .before .before .before .pre .1, omega (arith, h)))
+part-end-expression-end-requires : (t : ℕ) → part-end-lts.Need-expression-end-requires (part-end-claims t) (part-end-at t) part-end.Post
+part-end-expression-end-requires t c κs =
+    let entry = c .before .before .before .before in
+    let q = entry .pre .0 in let h = c .before .if1 .left in (omega (arith, q), (entry .pre .1, omega (arith, h)))
 
--- src/layout.rt:277:9
-part-end-measured-end-requires : (t : ℕ) → part-end-lts.Need-measured-end-requires (
-  cut-reads.Asked,
-  cut-reads.Learnt,
-  expression-end-below t,
-  expression-end.Post,
-  measured-end-reads.Asked,
-  measured-end-reads.Learnt,
-  stopped-reads.Asked,
-  stopped-reads.Learnt,
-) (part-end-at t) part-end.Post
+part-end-measured-end-requires : (t : ℕ) → part-end-lts.Need-measured-end-requires (part-end-claims t) (part-end-at t) part-end.Post
 part-end-measured-end-requires t c κs = tt
 
--- src/layout.rt:277:9
-part-end-returns-2 : (t : ℕ) → part-end-lts.Need-returns-2 (
-  cut-reads.Asked,
-  cut-reads.Learnt,
-  expression-end-below t,
-  expression-end.Post,
-  measured-end-reads.Asked,
-  measured-end-reads.Learnt,
-  stopped-reads.Asked,
-  stopped-reads.Learnt,
-) (part-end-at t) part-end.Post
-part-end-returns-2 t c = c .measured-end .ensures ∙ part-in _ _ _ _ _ _ _ _ (c .before .before .before .if1 .left) (c .before .before .if2 .taken) (c .before .expression-end .ensures)
+part-end-returns-2 : (t : ℕ) → part-end-lts.Need-returns-2 (part-end-claims t) (part-end-at t) part-end.Post
+part-end-returns-2 t c =
+    let at-before = c .before .before in
+    let at-if1 = at-before .before in
+    c .measured-end .ensures ∙ part-in _ _ _ _ _ _ _ _ (at-if1 .if1 .left) (at-before .if2 .taken) (c .before .expression-end .ensures)
 
--- src/layout.rt:284:5
-part-end-stopped-requires : (t : ℕ) → part-end-lts.Need-stopped-requires (
-  cut-reads.Asked,
-  cut-reads.Learnt,
-  expression-end-below t,
-  expression-end.Post,
-  measured-end-reads.Asked,
-  measured-end-reads.Learnt,
-  stopped-reads.Asked,
-  stopped-reads.Learnt,
-) (part-end-at t) part-end.Post
+part-end-stopped-requires : (t : ℕ) → part-end-lts.Need-stopped-requires (part-end-claims t) (part-end-at t) part-end.Post
 part-end-stopped-requires t c κs = tt
 
--- src/layout.rt:260:1
-part-end-returns-3 : (t : ℕ) → part-end-lts.Need-returns-3 (
-  cut-reads.Asked,
-  cut-reads.Learnt,
-  expression-end-below t,
-  expression-end.Post,
-  measured-end-reads.Asked,
-  measured-end-reads.Learnt,
-  stopped-reads.Asked,
-  stopped-reads.Learnt,
-) (part-end-at t) part-end.Post
+part-end-returns-3 : (t : ℕ) → part-end-lts.Need-returns-3 (part-end-claims t) (part-end-at t) part-end.Post
 part-end-returns-3 t c = c .stopped .ensures ∙ part-deep _ _ _ _ _ _ _ _ (c .before .before .if1 .left) (c .before .if2 .left)
 
--- src/layout.rt:137:13
-parts-end-enum-known-node : (t : ℕ) → parts-end-lts.Need-enum-known-node (
-  part-end-below t,
-  part-end.Post,
-  onward-reads.Asked,
-  onward-reads.Learnt,
-  bind-reads.Asked,
-  bind-reads.Learnt,
-  both-end-below t,
-  both-end.Post,
-) (parts-end-at t) parts-end.Post
+parts-end-enum-known-node : (t : ℕ) → parts-end-lts.Need-enum-known-node (parts-end-claims t) (parts-end-at t) parts-end.Post
 parts-end-enum-known-node t c = search needs
 
--- src/layout.rt:142:13
-parts-end-enum-known-node-2 : (t : ℕ) → parts-end-lts.Need-enum-known-node-2 (
-  part-end-below t,
-  part-end.Post,
-  onward-reads.Asked,
-  onward-reads.Learnt,
-  bind-reads.Asked,
-  bind-reads.Learnt,
-  both-end-below t,
-  both-end.Post,
-) (parts-end-at t) parts-end.Post
+parts-end-enum-known-node-2 : (t : ℕ) → parts-end-lts.Need-enum-known-node-2 (parts-end-claims t) (parts-end-at t) parts-end.Post
 parts-end-enum-known-node-2 t c = search needs
 
--- src/layout.rt:147:13
-parts-end-enum-known-node-3 : (t : ℕ) → parts-end-lts.Need-enum-known-node-3 (
-  part-end-below t,
-  part-end.Post,
-  onward-reads.Asked,
-  onward-reads.Learnt,
-  bind-reads.Asked,
-  bind-reads.Learnt,
-  both-end-below t,
-  both-end.Post,
-) (parts-end-at t) parts-end.Post
+parts-end-enum-known-node-3 : (t : ℕ) → parts-end-lts.Need-enum-known-node-3 (parts-end-claims t) (parts-end-at t) parts-end.Post
 parts-end-enum-known-node-3 t c = search needs
 
--- src/layout.rt:157:13
-parts-end-enum-known-node-4 : (t : ℕ) → parts-end-lts.Need-enum-known-node-4 (
-  part-end-below t,
-  part-end.Post,
-  onward-reads.Asked,
-  onward-reads.Learnt,
-  bind-reads.Asked,
-  bind-reads.Learnt,
-  both-end-below t,
-  both-end.Post,
-) (parts-end-at t) parts-end.Post
+parts-end-enum-known-node-4 : (t : ℕ) → parts-end-lts.Need-enum-known-node-4 (parts-end-claims t) (parts-end-at t) parts-end.Post
 parts-end-enum-known-node-4 t c = search needs
 
--- src/layout.rt:162:13
-parts-end-enum-known-node-5 : (t : ℕ) → parts-end-lts.Need-enum-known-node-5 (
-  part-end-below t,
-  part-end.Post,
-  onward-reads.Asked,
-  onward-reads.Learnt,
-  bind-reads.Asked,
-  bind-reads.Learnt,
-  both-end-below t,
-  both-end.Post,
-) (parts-end-at t) parts-end.Post
+parts-end-enum-known-node-5 : (t : ℕ) → parts-end-lts.Need-enum-known-node-5 (parts-end-claims t) (parts-end-at t) parts-end.Post
 parts-end-enum-known-node-5 t c = search needs
 
--- src/layout.rt:164:35
-parts-end-enum-known-node-6 : (t : ℕ) → parts-end-lts.Need-enum-known-node-6 (
-  part-end-below t,
-  part-end.Post,
-  onward-reads.Asked,
-  onward-reads.Learnt,
-  bind-reads.Asked,
-  bind-reads.Learnt,
-  both-end-below t,
-  both-end.Post,
-) (parts-end-at t) parts-end.Post
+parts-end-enum-known-node-6 : (t : ℕ) → parts-end-lts.Need-enum-known-node-6 (parts-end-claims t) (parts-end-at t) parts-end.Post
 parts-end-enum-known-node-6 t c = search needs
 
--- src/layout.rt:168:13
-parts-end-enum-known-node-7 : (t : ℕ) → parts-end-lts.Need-enum-known-node-7 (
-  part-end-below t,
-  part-end.Post,
-  onward-reads.Asked,
-  onward-reads.Learnt,
-  bind-reads.Asked,
-  bind-reads.Learnt,
-  both-end-below t,
-  both-end.Post,
-) (parts-end-at t) parts-end.Post
+parts-end-enum-known-node-7 : (t : ℕ) → parts-end-lts.Need-enum-known-node-7 (parts-end-claims t) (parts-end-at t) parts-end.Post
 parts-end-enum-known-node-7 t c = search needs
 
--- src/layout.rt:171:80
-parts-end-add-part-end : (t : ℕ) → parts-end-lts.Need-add-part-end (
-  part-end-below t,
-  part-end.Post,
-  onward-reads.Asked,
-  onward-reads.Learnt,
-  bind-reads.Asked,
-  bind-reads.Learnt,
-  both-end-below t,
-  both-end.Post,
-) (parts-end-at t) parts-end.Post
-parts-end-add-part-end t c = let p = c .before .before .before .before .before .pre .1 .1 .small in omega arith
+parts-end-add-part-end : (t : ℕ) → parts-end-lts.Need-add-part-end (parts-end-claims t) (parts-end-at t) parts-end.Post
+parts-end-add-part-end t c =
+    let entry = c .before .before .before .before .before in
+    let p = entry .pre .1 .1 .small in omega arith
 
--- src/layout.rt:171:17
-parts-end-part-end-requires : (t : ℕ) → parts-end-lts.Need-part-end-requires (
-  part-end-below t,
-  part-end.Post,
-  onward-reads.Asked,
-  onward-reads.Learnt,
-  bind-reads.Asked,
-  bind-reads.Learnt,
-  both-end-below t,
-  both-end.Post,
-) (parts-end-at t) parts-end.Post
-parts-end-part-end-requires t c κs = let q = c .before .before .before .before .before .pre .0 in let f = branch-fields _ _ (c .before .before .before .before .before .pre .1 .1 .is) (c .before .node7 .given .1) in (omega (arith, q, f .here, f .forward, f .inside), c .before .before .before .before .before .pre .1 .0)
+parts-end-part-end-requires : (t : ℕ) → parts-end-lts.Need-part-end-requires (parts-end-claims t) (parts-end-at t) parts-end.Post
+parts-end-part-end-requires t c κs =
+    let entry = c .before .before .before .before .before in
+    let q = entry .pre .0 in let f = branch-fields _ _ (entry .pre .1 .1 .is) (c .before .node7 .given .1) in (omega (arith, q, f .here, f .forward, f .inside), entry .pre .1 .0)
 
--- src/layout.rt:172:13
-parts-end-onward-requires : (t : ℕ) → parts-end-lts.Need-onward-requires (
-  part-end-below t,
-  part-end.Post,
-  onward-reads.Asked,
-  onward-reads.Learnt,
-  bind-reads.Asked,
-  bind-reads.Learnt,
-  both-end-below t,
-  both-end.Post,
-) (parts-end-at t) parts-end.Post
+parts-end-onward-requires : (t : ℕ) → parts-end-lts.Need-onward-requires (parts-end-claims t) (parts-end-at t) parts-end.Post
 parts-end-onward-requires t c κs = tt
 
--- src/layout.rt:175:13
-parts-end-enum-known-node-8 : (t : ℕ) → parts-end-lts.Need-enum-known-node-8 (
-  part-end-below t,
-  part-end.Post,
-  onward-reads.Asked,
-  onward-reads.Learnt,
-  bind-reads.Asked,
-  bind-reads.Learnt,
-  both-end-below t,
-  both-end.Post,
-) (parts-end-at t) parts-end.Post
+parts-end-enum-known-node-8 : (t : ℕ) → parts-end-lts.Need-enum-known-node-8 (parts-end-claims t) (parts-end-at t) parts-end.Post
 parts-end-enum-known-node-8 t c = search needs
 
--- src/layout.rt:180:17
-parts-end-bind-requires : (t : ℕ) → parts-end-lts.Need-bind-requires (
-  part-end-below t,
-  part-end.Post,
-  onward-reads.Asked,
-  onward-reads.Learnt,
-  bind-reads.Asked,
-  bind-reads.Learnt,
-  both-end-below t,
-  both-end.Post,
-) (parts-end-at t) parts-end.Post
+parts-end-bind-requires : (t : ℕ) → parts-end-lts.Need-bind-requires (parts-end-claims t) (parts-end-at t) parts-end.Post
 parts-end-bind-requires t c κs = tt
 
--- src/layout.rt:181:79
-parts-end-add-part-end-2 : (t : ℕ) → parts-end-lts.Need-add-part-end-2 (
-  part-end-below t,
-  part-end.Post,
-  onward-reads.Asked,
-  onward-reads.Learnt,
-  bind-reads.Asked,
-  bind-reads.Learnt,
-  both-end-below t,
-  both-end.Post,
-) (parts-end-at t) parts-end.Post
-parts-end-add-part-end-2 t c = let p = c .before .before .before .before .before .before .pre .1 .1 .small in omega arith
+parts-end-add-part-end-2 : (t : ℕ) → parts-end-lts.Need-add-part-end-2 (parts-end-claims t) (parts-end-at t) parts-end.Post
+parts-end-add-part-end-2 t c =
+    let entry = c .before .before .before .before .before .before in
+    let p = entry .pre .1 .1 .small in omega arith
 
--- src/layout.rt:181:17
-parts-end-part-end-requires-2 : (t : ℕ) → parts-end-lts.Need-part-end-requires-2 (
-  part-end-below t,
-  part-end.Post,
-  onward-reads.Asked,
-  onward-reads.Learnt,
-  bind-reads.Asked,
-  bind-reads.Learnt,
-  both-end-below t,
-  both-end.Post,
-) (parts-end-at t) parts-end.Post
-parts-end-part-end-requires-2 t c κs = let q = c .before .before .before .before .before .before .pre .0 in let f = continuation-fields _ _ (c .before .before .before .before .before .before .pre .1 .1 .is) (c .before .before .node8 .given .1) in (omega (arith, q, f .here, f .forward, f .inside), c .before .before .before .before .before .before .pre .1 .0)
+parts-end-part-end-requires-2 : (t : ℕ) → parts-end-lts.Need-part-end-requires-2 (parts-end-claims t) (parts-end-at t) parts-end.Post
+parts-end-part-end-requires-2 t c κs =
+    let entry = c .before .before .before .before .before .before in
+    let q = entry .pre .0 in let f = continuation-fields _ _ (entry .pre .1 .1 .is) (c .before .before .node8 .given .1) in (omega (arith, q, f .here, f .forward, f .inside), entry .pre .1 .0)
 
--- src/layout.rt:182:13
-parts-end-onward-requires-2 : (t : ℕ) → parts-end-lts.Need-onward-requires-2 (
-  part-end-below t,
-  part-end.Post,
-  onward-reads.Asked,
-  onward-reads.Learnt,
-  bind-reads.Asked,
-  bind-reads.Learnt,
-  both-end-below t,
-  both-end.Post,
-) (parts-end-at t) parts-end.Post
+parts-end-onward-requires-2 : (t : ℕ) → parts-end-lts.Need-onward-requires-2 (parts-end-claims t) (parts-end-at t) parts-end.Post
 parts-end-onward-requires-2 t c κs = tt
 
--- src/layout.rt:185:13
-parts-end-enum-known-node-9 : (t : ℕ) → parts-end-lts.Need-enum-known-node-9 (
-  part-end-below t,
-  part-end.Post,
-  onward-reads.Asked,
-  onward-reads.Learnt,
-  bind-reads.Asked,
-  bind-reads.Learnt,
-  both-end-below t,
-  both-end.Post,
-) (parts-end-at t) parts-end.Post
+parts-end-enum-known-node-9 : (t : ℕ) → parts-end-lts.Need-enum-known-node-9 (parts-end-claims t) (parts-end-at t) parts-end.Post
 parts-end-enum-known-node-9 t c = search needs
 
--- src/layout.rt:190:14
-parts-end-both-end-requires : (t : ℕ) → parts-end-lts.Need-both-end-requires (
-  part-end-below t,
-  part-end.Post,
-  onward-reads.Asked,
-  onward-reads.Learnt,
-  bind-reads.Asked,
-  bind-reads.Learnt,
-  both-end-below t,
-  both-end.Post,
-) (parts-end-at t) parts-end.Post
-parts-end-both-end-requires t c κs = let q = c .before .before .before .before .before .pre .0 in let f = both-fields _ _ (c .before .before .before .before .before .pre .1 .1 .is) (c .before .node9 .given .1) in (omega (arith, q), (c .before .before .before .before .before .pre .1 .0, (f .forward, f .inside)))
+parts-end-both-end-requires : (t : ℕ) → parts-end-lts.Need-both-end-requires (parts-end-claims t) (parts-end-at t) parts-end.Post
+parts-end-both-end-requires t c κs =
+    let entry = c .before .before .before .before .before in
+    let q = entry .pre .0 in let f = both-fields _ _ (entry .pre .1 .1 .is) (c .before .node9 .given .1) in (omega (arith, q), (entry .pre .1 .0, (f .forward, f .inside)))
 
--- src/layout.rt:203:22
-parts-end-enum-known-node-10 : (t : ℕ) → parts-end-lts.Need-enum-known-node-10 (
-  part-end-below t,
-  part-end.Post,
-  onward-reads.Asked,
-  onward-reads.Learnt,
-  bind-reads.Asked,
-  bind-reads.Learnt,
-  both-end-below t,
-  both-end.Post,
-) (parts-end-at t) parts-end.Post
+parts-end-enum-known-node-10 : (t : ℕ) → parts-end-lts.Need-enum-known-node-10 (parts-end-claims t) (parts-end-at t) parts-end.Post
 parts-end-enum-known-node-10 t c = search needs
 
--- src/layout.rt:122:1
-parts-end-returns : (t : ℕ) → parts-end-lts.Need-returns (
-  part-end-below t,
-  part-end.Post,
-  onward-reads.Asked,
-  onward-reads.Learnt,
-  bind-reads.Asked,
-  bind-reads.Learnt,
-  both-end-below t,
-  both-end.Post,
-) (parts-end-at t) parts-end.Post
+parts-end-returns : (t : ℕ) → parts-end-lts.Need-returns (parts-end-claims t) (parts-end-at t) parts-end.Post
 unfolding partsEnd
-parts-end-returns t c = sym (ap (partsEnd (c .before .before .before .before .before .args .names) (c .before .before .before .before .before .args .params .now) (c .before .before .before .before .before .args .file .now) (c .before .before .before .before .before .args .level) (c .before .before .before .before .before .args .kinds) (c .before .before .before .before .before .args .at)) (c .before .node .given .1))
+parts-end-returns t c =
+    let entry = c .before .before .before .before .before in
+    sym (ap (partsEnd (entry .args .names) (entry .args .params .now) (entry .args .file .now) (entry .args .level) (entry .args .kinds) (entry .args .at)) (c .before .node .given .1))
 
--- src/layout.rt:122:1
-parts-end-returns-2 : (t : ℕ) → parts-end-lts.Need-returns-2 (
-  part-end-below t,
-  part-end.Post,
-  onward-reads.Asked,
-  onward-reads.Learnt,
-  bind-reads.Asked,
-  bind-reads.Learnt,
-  both-end-below t,
-  both-end.Post,
-) (parts-end-at t) parts-end.Post
+parts-end-returns-2 : (t : ℕ) → parts-end-lts.Need-returns-2 (parts-end-claims t) (parts-end-at t) parts-end.Post
 unfolding partsEnd
-parts-end-returns-2 t c = sym (ap (partsEnd (c .before .before .before .before .before .args .names) (c .before .before .before .before .before .args .params .now) (c .before .before .before .before .before .args .file .now) (c .before .before .before .before .before .args .level) (c .before .before .before .before .before .args .kinds) (c .before .before .before .before .before .args .at)) (c .before .node2 .given .1))
+parts-end-returns-2 t c =
+    let entry = c .before .before .before .before .before in
+    sym (ap (partsEnd (entry .args .names) (entry .args .params .now) (entry .args .file .now) (entry .args .level) (entry .args .kinds) (entry .args .at)) (c .before .node2 .given .1))
 
--- src/layout.rt:122:1
-parts-end-returns-3 : (t : ℕ) → parts-end-lts.Need-returns-3 (
-  part-end-below t,
-  part-end.Post,
-  onward-reads.Asked,
-  onward-reads.Learnt,
-  bind-reads.Asked,
-  bind-reads.Learnt,
-  both-end-below t,
-  both-end.Post,
-) (parts-end-at t) parts-end.Post
+parts-end-returns-3 : (t : ℕ) → parts-end-lts.Need-returns-3 (parts-end-claims t) (parts-end-at t) parts-end.Post
 unfolding partsEnd
-parts-end-returns-3 t c = sym (ap (partsEnd (c .before .before .before .before .before .args .names) (c .before .before .before .before .before .args .params .now) (c .before .before .before .before .before .args .file .now) (c .before .before .before .before .before .args .level) (c .before .before .before .before .before .args .kinds) (c .before .before .before .before .before .args .at)) (c .before .node3 .given .1))
+parts-end-returns-3 t c =
+    let entry = c .before .before .before .before .before in
+    sym (ap (partsEnd (entry .args .names) (entry .args .params .now) (entry .args .file .now) (entry .args .level) (entry .args .kinds) (entry .args .at)) (c .before .node3 .given .1))
 
--- src/layout.rt:122:1
-parts-end-returns-4 : (t : ℕ) → parts-end-lts.Need-returns-4 (
-  part-end-below t,
-  part-end.Post,
-  onward-reads.Asked,
-  onward-reads.Learnt,
-  bind-reads.Asked,
-  bind-reads.Learnt,
-  both-end-below t,
-  both-end.Post,
-) (parts-end-at t) parts-end.Post
+parts-end-returns-4 : (t : ℕ) → parts-end-lts.Need-returns-4 (parts-end-claims t) (parts-end-at t) parts-end.Post
 unfolding partsEnd
-parts-end-returns-4 t c = sym (ap (partsEnd (c .before .before .before .before .before .args .names) (c .before .before .before .before .before .args .params .now) (c .before .before .before .before .before .args .file .now) (c .before .before .before .before .before .args .level) (c .before .before .before .before .before .args .kinds) (c .before .before .before .before .before .args .at)) (c .before .node4 .given .1))
+parts-end-returns-4 t c =
+    let entry = c .before .before .before .before .before in
+    sym (ap (partsEnd (entry .args .names) (entry .args .params .now) (entry .args .file .now) (entry .args .level) (entry .args .kinds) (entry .args .at)) (c .before .node4 .given .1))
 
--- src/layout.rt:122:1
-parts-end-returns-5 : (t : ℕ) → parts-end-lts.Need-returns-5 (
-  part-end-below t,
-  part-end.Post,
-  onward-reads.Asked,
-  onward-reads.Learnt,
-  bind-reads.Asked,
-  bind-reads.Learnt,
-  both-end-below t,
-  both-end.Post,
-) (parts-end-at t) parts-end.Post
+parts-end-returns-5 : (t : ℕ) → parts-end-lts.Need-returns-5 (parts-end-claims t) (parts-end-at t) parts-end.Post
 unfolding partsEnd
-parts-end-returns-5 t c = sym (ap (partsEnd (c .before .before .before .before .before .args .names) (c .before .before .before .before .before .args .params .now) (c .before .before .before .before .before .args .file .now) (c .before .before .before .before .before .args .level) (c .before .before .before .before .before .args .kinds) (c .before .before .before .before .before .args .at)) (c .before .node5 .given .1))
+parts-end-returns-5 t c =
+    let entry = c .before .before .before .before .before in
+    sym (ap (partsEnd (entry .args .names) (entry .args .params .now) (entry .args .file .now) (entry .args .level) (entry .args .kinds) (entry .args .at)) (c .before .node5 .given .1))
 
--- src/layout.rt:122:1
-parts-end-returns-6 : (t : ℕ) → parts-end-lts.Need-returns-6 (
-  part-end-below t,
-  part-end.Post,
-  onward-reads.Asked,
-  onward-reads.Learnt,
-  bind-reads.Asked,
-  bind-reads.Learnt,
-  both-end-below t,
-  both-end.Post,
-) (parts-end-at t) parts-end.Post
+parts-end-returns-6 : (t : ℕ) → parts-end-lts.Need-returns-6 (parts-end-claims t) (parts-end-at t) parts-end.Post
 unfolding partsEnd
-parts-end-returns-6 t c = sym (ap (partsEnd (c .before .before .before .before .before .args .names) (c .before .before .before .before .before .args .params .now) (c .before .before .before .before .before .args .file .now) (c .before .before .before .before .before .args .level) (c .before .before .before .before .before .args .kinds) (c .before .before .before .before .before .args .at)) (c .before .node6 .given .1))
+parts-end-returns-6 t c =
+    let entry = c .before .before .before .before .before in
+    sym (ap (partsEnd (entry .args .names) (entry .args .params .now) (entry .args .file .now) (entry .args .level) (entry .args .kinds) (entry .args .at)) (c .before .node6 .given .1))
 
--- src/layout.rt:122:1
-parts-end-returns-7 : (t : ℕ) → parts-end-lts.Need-returns-7 (
-  part-end-below t,
-  part-end.Post,
-  onward-reads.Asked,
-  onward-reads.Learnt,
-  bind-reads.Asked,
-  bind-reads.Learnt,
-  both-end-below t,
-  both-end.Post,
-) (parts-end-at t) parts-end.Post
-parts-end-returns-7 t c = branch-on _ _ _ _ _ _ (c .before .before .before .node7 .given .1) (c .onward .ensures) (c .before .part-end .ensures)
+parts-end-returns-7 : (t : ℕ) → parts-end-lts.Need-returns-7 (parts-end-claims t) (parts-end-at t) parts-end.Post
+parts-end-returns-7 t c =
+    let at-node7 = c .before .before .before in
+    branch-on _ _ _ _ _ _ (at-node7 .node7 .given .1) (c .onward .ensures) (c .before .part-end .ensures)
 
--- src/layout.rt:122:1
-parts-end-returns-8 : (t : ℕ) → parts-end-lts.Need-returns-8 (
-  part-end-below t,
-  part-end.Post,
-  onward-reads.Asked,
-  onward-reads.Learnt,
-  bind-reads.Asked,
-  bind-reads.Learnt,
-  both-end-below t,
-  both-end.Post,
-) (parts-end-at t) parts-end.Post
-parts-end-returns-8 t c = continuation-on _ _ _ _ _ _ _ (c .before .before .before .before .node8 .given .1) (c .onward2 .ensures) (c .before .part-end2 .ensures) (c .before .before .bind .ensures)
+parts-end-returns-8 : (t : ℕ) → parts-end-lts.Need-returns-8 (parts-end-claims t) (parts-end-at t) parts-end.Post
+parts-end-returns-8 t c =
+    let at-node8 = c .before .before .before .before in
+    continuation-on _ _ _ _ _ _ _ (at-node8 .node8 .given .1) (c .onward2 .ensures) (c .before .part-end2 .ensures) (c .before .before .bind .ensures)
 
--- src/layout.rt:122:1
-parts-end-returns-9 : (t : ℕ) → parts-end-lts.Need-returns-9 (
-  part-end-below t,
-  part-end.Post,
-  onward-reads.Asked,
-  onward-reads.Learnt,
-  bind-reads.Asked,
-  bind-reads.Learnt,
-  both-end-below t,
-  both-end.Post,
-) (parts-end-at t) parts-end.Post
+parts-end-returns-9 : (t : ℕ) → parts-end-lts.Need-returns-9 (parts-end-claims t) (parts-end-at t) parts-end.Post
 parts-end-returns-9 t c = tag-9-on _ _ _ _ _ _ (c .before .before .node9 .given .1) (c .both-end .ensures)
 
--- src/layout.rt:122:1
-parts-end-returns-10 : (t : ℕ) → parts-end-lts.Need-returns-10 (
-  part-end-below t,
-  part-end.Post,
-  onward-reads.Asked,
-  onward-reads.Learnt,
-  bind-reads.Asked,
-  bind-reads.Learnt,
-  both-end-below t,
-  both-end.Post,
-) (parts-end-at t) parts-end.Post
+parts-end-returns-10 : (t : ℕ) → parts-end-lts.Need-returns-10 (parts-end-claims t) (parts-end-at t) parts-end.Post
 unfolding partsEnd
-parts-end-returns-10 t c = sym (ap (partsEnd (c .before .before .before .before .before .args .names) (c .before .before .before .before .before .args .params .now) (c .before .before .before .before .before .args .file .now) (c .before .before .before .before .before .args .level) (c .before .before .before .before .before .args .kinds) (c .before .before .before .before .before .args .at)) (c .before .node10 .given .1))
+parts-end-returns-10 t c =
+    let entry = c .before .before .before .before .before in
+    sym (ap (partsEnd (entry .args .names) (entry .args .params .now) (entry .args .file .now) (entry .args .level) (entry .args .kinds) (entry .args .at)) (c .before .node10 .given .1))
 
 pub +both-end+expression-end+handler-end+node-end+part-end+parts-end-spec :
     {M : Type 1} → statement M
@@ -1031,16 +457,7 @@ pub +both-end+expression-end+handler-end+node-end+part-end+parts-end-spec :
     μ-node-end
     μ-part-end
     μ-parts-end
-    (λ t. both-end-lts.spec (
-      bind-reads.Asked,
-      bind-reads.Learnt,
-      part-end-below t,
-      part-end.Post,
-      handler-end-below t,
-      handler-end.Post,
-      onward-reads.Asked,
-      onward-reads.Learnt,
-    )
+    (λ t. both-end-lts.spec (both-end-claims t)
     (both-end-at t)
     both-end.Post
     (both-end-bind-requires t)
@@ -1053,14 +470,7 @@ pub +both-end+expression-end+handler-end+node-end+part-end+parts-end-spec :
     (both-end-enum-known-r t)
     (both-end-returns t)
     (both-end-returns-2 t))
-    (λ t. expression-end-lts.spec (
-      tag-at-reads.Asked,
-      tag-at-reads.Learnt,
-      node-end-below t,
-      node-end.Post,
-      bind-reads.Asked,
-      bind-reads.Learnt,
-    )
+    (λ t. expression-end-lts.spec (expression-end-claims t)
     (expression-end-at t)
     expression-end.Post
     expression-end-Inv-loop
@@ -1076,14 +486,7 @@ pub +both-end+expression-end+handler-end+node-end+part-end+parts-end-spec :
     (expression-end-returns t)
     (expression-end-enum-known-r t)
     (expression-end-returns-2 t))
-    (λ t. handler-end-lts.spec (
-      cut-reads.Asked,
-      cut-reads.Learnt,
-      pair-reads.Asked,
-      pair-reads.Learnt,
-      part-end-below t,
-      part-end.Post,
-    )
+    (λ t. handler-end-lts.spec (handler-end-claims t)
     (handler-end-at t)
     handler-end.Post
     (handler-end-cut-requires t)
@@ -1097,12 +500,7 @@ pub +both-end+expression-end+handler-end+node-end+part-end+parts-end-spec :
     (handler-end-pair-requires t)
     (handler-end-part-end-requires t)
     (handler-end-returns-3 t))
-    (λ t. node-end-lts.spec (
-      judge-reads.Asked,
-      judge-reads.Learnt,
-      parts-end-below t,
-      parts-end.Post,
-    )
+    (λ t. node-end-lts.spec (node-end-claims t)
     (node-end-at t)
     node-end.Post
     (node-end-judge-requires t)
@@ -1111,16 +509,7 @@ pub +both-end+expression-end+handler-end+node-end+part-end+parts-end-spec :
     (node-end-enum-known-r t)
     (node-end-returns t)
     (node-end-returns-2 t))
-    (λ t. part-end-lts.spec (
-      cut-reads.Asked,
-      cut-reads.Learnt,
-      expression-end-below t,
-      expression-end.Post,
-      measured-end-reads.Asked,
-      measured-end-reads.Learnt,
-      stopped-reads.Asked,
-      stopped-reads.Learnt,
-    )
+    (λ t. part-end-lts.spec (part-end-claims t)
     (part-end-at t)
     part-end.Post
     (part-end-cut-requires t)
@@ -1131,16 +520,7 @@ pub +both-end+expression-end+handler-end+node-end+part-end+parts-end-spec :
     (part-end-returns-2 t)
     (part-end-stopped-requires t)
     (part-end-returns-3 t))
-    λ t. parts-end-lts.spec (
-      part-end-below t,
-      part-end.Post,
-      onward-reads.Asked,
-      onward-reads.Learnt,
-      bind-reads.Asked,
-      bind-reads.Learnt,
-      both-end-below t,
-      both-end.Post,
-    )
+    λ t. parts-end-lts.spec (parts-end-claims t)
     (parts-end-at t)
     parts-end.Post
     (parts-end-enum-known-node t)

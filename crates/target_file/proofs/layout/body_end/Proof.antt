@@ -11,53 +11,43 @@ use Rattle.target_file.proofs.layout.expression_end.Reads as expression
 use Rattle.target_file.proofs.layout.measured_end.Reads as measured-end-reads
 use Rattle.target_tags.proofs.tag.pair.Reads as pair-reads
 
--- src/layout.rt:290:9
 cut-requires : tie.Need-cut-requires
 cut-requires c κs = search needs
 
--- src/layout.rt:290:9
 returns : tie.Need-returns
 returns c = let h = c .before .if1 .taken in c .cut .ensures ∙ body-cut _ _ _ _ _ (omega arith)
 
--- src/layout.rt:292:17
 add-start : tie.Need-add-start
 add-start c = search needs
 
--- src/layout.rt:294:9
 cut-requires-2 : tie.Need-cut-requires-2
 cut-requires-2 c κs = search needs
 
--- src/layout.rt:294:9
 returns-2 : tie.Need-returns-2
 returns-2 c = c .cut2 .ensures ∙ body-cut _ _ _ _ _ (c .before .if2 .taken)
 
--- src/layout.rt:296:26
 shared-slice-read-pair : tie.Need-shared-slice-read-pair
 shared-slice-read-pair c = search needs
 
--- src/layout.rt:296:41
 add-pair : tie.Need-add-pair
 add-pair c = search needs
 
--- src/layout.rt:296:36
 shared-slice-read-pair-2 : tie.Need-shared-slice-read-pair-2
 shared-slice-read-pair-2 c = search needs
 
--- src/layout.rt:296:9
 pair-requires : tie.Need-pair-requires
 pair-requires c κs = search needs
 
--- src/layout.rt:298:9
 expression-end-requires : tie.Need-expression-end-requires
 expression-end-requires c κs = search needs
 
--- src/layout.rt:297:5
 measured-end-requires : tie.Need-measured-end-requires
 measured-end-requires c κs = search needs
 
--- src/layout.rt:285:1
 returns-3 : tie.Need-returns-3
-returns-3 c = c .measured-end .ensures ∙ body-in _ _ _ _ _ _ (c .before .before .before .before .before .if2 .left) (c .before .before .pair .ensures) (c .before .expression-end .ensures)
+returns-3 c =
+    let at-if2 = c .before .before .before .before .before in
+    c .measured-end .ensures ∙ body-in _ _ _ _ _ _ (at-if2 .if2 .left) (c .before .before .pair .ensures) (c .before .expression-end .ensures)
 
 pub body-end-spec : {M : Type 1} → statement M
 body-end-spec =

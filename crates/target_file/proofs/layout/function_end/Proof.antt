@@ -12,37 +12,38 @@ use Rattle.parsing.proofs.count_at.Reads as count-at-reads
 use Rattle.target_file.proofs.layout.body_end.Reads as body-end-reads
 use Rattle.target_tags.proofs.names.entry_kinds.Reads as entry-kinds-reads
 
--- src/layout.rt:310:11
 count-at-requires : tie.Need-count-at-requires
 count-at-requires c κs = search needs
 
--- src/layout.rt:311:24
 enum-known-r : tie.Need-enum-known-r
 enum-known-r c = search needs
 
--- src/layout.rt:312:19
 enum-known-n : tie.Need-enum-known-n
 enum-known-n c = search needs
 
--- src/layout.rt:312:55
 entry-kinds-requires : tie.Need-entry-kinds-requires
-entry-kinds-requires c κs = function-few false [] _ _ _ (sym (c .before .before .before .count-at .ensures) ∙ c .before .n .given .1) .0
+entry-kinds-requires c κs =
+    let at-count-at = c .before .before .before in
+    function-few false [] _ _ _ (sym (at-count-at .count-at .ensures) ∙ c .before .n .given .1) .0
 
--- src/layout.rt:312:78
 add-body-end : tie.Need-add-body-end
-add-body-end c = let h = function-few false [] _ _ _ (sym (c .before .before .before .before .count-at .ensures) ∙ c .before .before .n .given .1) in let i = h .1 in omega arith
+add-body-end c =
+    let at-count-at = c .before .before .before .before in
+    let h = function-few false [] _ _ _ (sym (at-count-at .count-at .ensures) ∙ c .before .before .n .given .1) in let i = h .1 in omega arith
 
--- src/layout.rt:312:25
 body-end-requires : tie.Need-body-end-requires
 body-end-requires c κs = search needs
 
--- src/layout.rt:306:1
 returns : tie.Need-returns
-returns c = function-outside _ _ _ _ _ (sym (c .before .before .before .count-at .ensures) ∙ c .before .r .given .1)
+returns c =
+    let at-count-at = c .before .before .before in
+    function-outside _ _ _ _ _ (sym (at-count-at .count-at .ensures) ∙ c .before .r .given .1)
 
--- src/layout.rt:306:1
 returns-2 : tie.Need-returns-2
-returns-2 c = function-in _ _ _ _ _ _ (sym (c .before .before .before .before .before .count-at .ensures) ∙ c .before .before .before .n .given .1) (c .before .entry-kinds .ensures) (c .body-end .ensures)
+returns-2 c =
+    let at-n = c .before .before .before in
+    let at-count-at = at-n .before .before in
+    function-in _ _ _ _ _ _ (sym (at-count-at .count-at .ensures) ∙ at-n .n .given .1) (c .before .entry-kinds .ensures) (c .body-end .ensures)
 
 pub function-end-spec : {M : Type 1} → statement M
 function-end-spec =

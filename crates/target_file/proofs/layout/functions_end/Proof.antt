@@ -16,41 +16,50 @@ Inv-loop file params names start n at₀ left₀ at left =
 abbrev μ-loop : tie.MeasureT-loop
 μ-loop file params names start n at₀ left₀ at left = left
 
--- src/layout.rt:323:5
+-- Ways back to earlier places that several answers take.
+abbrev entry-before-at-loop : tie.At-loop Inv-loop μ-loop → tie.Start Inv-loop μ-loop
+entry-before-at-loop c = c .before .before .before
+
 loop-holds : tie.Need-loop-holds Inv-loop μ-loop
 loop-holds c = refl
 
--- src/layout.rt:324:9
 sub-left : tie.Need-sub-left Inv-loop μ-loop
 sub-left c = search needs
 
--- src/layout.rt:325:15
 function-end-requires : tie.Need-function-end-requires Inv-loop μ-loop
-function-end-requires c κs = c .before .before .before .before .pre
+function-end-requires c κs =
+    let entry = c .before .before .before .before in
+    entry .pre
 
--- src/layout.rt:326:24
 enum-known-next : tie.Need-enum-known-next Inv-loop μ-loop
 enum-known-next c = search needs
 
--- src/layout.rt:323:5
 loop-less : tie.Need-loop-less Inv-loop μ-loop
 loop-less c = search needs
 
--- src/layout.rt:323:5
 loop-again : tie.Need-loop-again Inv-loop μ-loop
-loop-again c = many-turn (function (c .before .before .before .before .before .before .before .before .args .names) (c .before .before .before .before .before .before .before .before .args .params .now)) _ _ _ _ (c .before .before .before .before .loop-test .taken) (sym (c .before .before .before .function-end .ensures) ∙ c .before .next .given .1) ∙ c .before .before .before .before .before .loop .inv
+loop-again c =
+    let at-function-end = c .before .before .before in
+    let at-loop-test = at-function-end .before in
+    let at-loop = at-loop-test .before in
+    let entry = entry-before-at-loop at-loop in
+    many-turn (function (entry .args .names) (entry .args .params .now)) _ _ _ _ (at-loop-test .loop-test .taken) (sym (at-function-end .function-end .ensures) ∙ c .before .next .given .1) ∙ at-loop .loop .inv
 
--- src/layout.rt:329:27
 enum-known-r : tie.Need-enum-known-r Inv-loop μ-loop
 enum-known-r c = search needs
 
--- src/layout.rt:330:17
 returns : tie.Need-returns Inv-loop μ-loop
-returns c = many-halt (function (c .before .before .before .before .before .before .before .before .args .names) (c .before .before .before .before .before .before .before .before .args .params .now)) _ _ _ _ (c .before .before .before .before .loop-test .taken) (sym (c .before .before .before .function-end .ensures) ∙ c .before .r .given .1) ∙ c .before .before .before .before .before .loop .inv
+returns c =
+    let at-function-end = c .before .before .before in
+    let at-loop-test = at-function-end .before in
+    let at-loop = at-loop-test .before in
+    let entry = entry-before-at-loop at-loop in
+    many-halt (function (entry .args .names) (entry .args .params .now)) _ _ _ _ (at-loop-test .loop-test .taken) (sym (at-function-end .function-end .ensures) ∙ c .before .r .given .1) ∙ at-loop .loop .inv
 
--- src/layout.rt:317:1
 returns-2 : tie.Need-returns-2 Inv-loop μ-loop
-returns-2 c = many-last (function (c .before .before .before .before .args .names) (c .before .before .before .before .args .params .now)) _ _ _ (c .loop-test .left) ∙ c .before .loop .inv
+returns-2 c =
+    let entry = c .before .before .before .before in
+    many-last (function (entry .args .names) (entry .args .params .now)) _ _ _ (c .loop-test .left) ∙ c .before .loop .inv
 
 pub functions-end-spec : {M : Type 1} → statement M
 functions-end-spec =

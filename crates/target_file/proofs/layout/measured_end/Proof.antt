@@ -7,37 +7,35 @@ use Rattle.target_file.proofs.layout.measured_end.Reads as reads
 use Rattle.target_file.proofs.layout.measured_end.Lts as lts
 use Rattle.target_file.proofs.layout.stopped.Reads as stopped-reads
 
--- src/layout.rt:45:23
 enum-known-part : tie.Need-enum-known-part
 enum-known-part c = search needs
 
--- src/layout.rt:46:20
 enum-known-part-2 : tie.Need-enum-known-part-2
 enum-known-part-2 c = search needs
 
--- src/layout.rt:48:17
 stopped-requires : tie.Need-stopped-requires
 stopped-requires c κs = search needs
 
--- src/layout.rt:48:17
 returns : tie.Need-returns
-returns c = c .stopped .ensures ∙ measured-back _ _ _ _ (c .before .before .before .part2 .given .1) (c .before .if1 .taken)
+returns c =
+    let at-part2 = c .before .before .before in
+    c .stopped .ensures ∙ measured-back _ _ _ _ (at-part2 .part2 .given .1) (c .before .if1 .taken)
 
--- src/layout.rt:51:17
 returns-2 : tie.Need-returns-2
-returns-2 c = measured-right _ _ _ _ (c .before .before .before .part2 .given .1) (c .before .if1 .left) (c .if2 .taken)
+returns-2 c =
+    let at-part2 = c .before .before .before in
+    measured-right _ _ _ _ (at-part2 .part2 .given .1) (c .before .if1 .left) (c .if2 .taken)
 
--- src/layout.rt:53:13
 stopped-requires-2 : tie.Need-stopped-requires-2
 stopped-requires-2 c κs = search needs
 
--- src/layout.rt:41:1
 returns-3 : tie.Need-returns-3
 returns-3 c = measured-stopped _ _ _ _ (c .before .part .given .1)
 
--- src/layout.rt:41:1
 returns-4 : tie.Need-returns-4
-returns-4 c = c .stopped2 .ensures ∙ measured-unlike _ _ _ _ (c .before .before .before .before .part2 .given .1) (c .before .before .if1 .left) (c .before .if2 .left)
+returns-4 c =
+    let at-part2 = c .before .before .before .before in
+    c .stopped2 .ensures ∙ measured-unlike _ _ _ _ (at-part2 .part2 .given .1) (c .before .before .if1 .left) (c .before .if2 .left)
 
 pub measured-end-spec : {M : Type 1} → statement M
 measured-end-spec =

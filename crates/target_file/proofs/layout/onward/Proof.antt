@@ -6,21 +6,21 @@ use Rattle.target_file.proofs.layout.onward.Tie as tie
 use Rattle.target_file.proofs.layout.onward.Reads as reads
 use Rattle.target_file.proofs.layout.onward.Lts as lts
 
--- src/layout.rt:63:20
 enum-known-part : tie.Need-enum-known-part
 enum-known-part c = search needs
 
--- src/layout.rt:64:23
 enum-known-part-2 : tie.Need-enum-known-part-2
 enum-known-part-2 c = search needs
 
--- src/layout.rt:59:1
 returns : tie.Need-returns
-returns c = sym (ap (onwardOf (c .before .before .before .args .slot)) (c .before .part .given .1))
+returns c =
+    let entry = c .before .before .before in
+    sym (ap (onwardOf (entry .args .slot)) (c .before .part .given .1))
 
--- src/layout.rt:59:1
 returns-2 : tie.Need-returns-2
-returns-2 c = sym (ap (onwardOf (c .before .before .before .args .slot)) (c .before .part2 .given .1))
+returns-2 c =
+    let entry = c .before .before .before in
+    sym (ap (onwardOf (entry .args .slot)) (c .before .part2 .given .1))
 
 pub onward-spec : {M : Type 1} → statement M
 onward-spec = tie.close (tie.spec enum-known-part enum-known-part-2 returns returns-2)

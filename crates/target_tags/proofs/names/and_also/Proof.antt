@@ -5,19 +5,15 @@ use Rattle.target_tags.proofs.names.and_also.Tie as tie
 use Rattle.target_tags.proofs.names.and_also.Reads as reads
 use Rattle.target_tags.proofs.names.and_also.Lts as lts
 
--- src/names.rt:21:30
 enum-told : tie.Need-enum-told
 enum-told c = search needs
 
--- src/names.rt:22:26
 enum-known-first : tie.Need-enum-known-first
 enum-known-first c = search needs
 
--- src/names.rt:17:1
 returns : tie.Need-returns
 returns c = search needs
 
--- src/names.rt:17:1
 returns-2 : tie.Need-returns-2
 returns-2 c = refused-first _ _ (c .before .first .given .1)
 

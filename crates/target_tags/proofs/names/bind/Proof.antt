@@ -6,16 +6,13 @@ use Rattle.target_tags.proofs.names.bind.Tie as tie
 use Rattle.target_tags.proofs.names.bind.Reads as reads
 use Rattle.target_tags.proofs.names.bind.Lts as lts
 
--- src/names.rt:257:9
 array-write-new : tie.Need-array-write-new
 array-write-new c = search needs
 
--- src/names.rt:252:1
 returns : tie.Need-returns
 unfolding bound
 returns c = search cases
 
--- src/names.rt:252:1
 returns-2 : tie.Need-returns-2
 unfolding bound
 returns-2 c = search cases

@@ -7,16 +7,13 @@ use Rattle.target_tags.proofs.names.binds_slot.Reads as reads
 use Rattle.target_tags.proofs.names.binds_slot.Lts as lts
 use Rattle.target_tags.proofs.names.refused.Reads as refused-reads
 
--- src/names.rt:31:9
 returns : tie.Need-returns
 unfolding binds
 returns c = search cases
 
--- src/names.rt:33:5
 refused-requires : tie.Need-refused-requires
 refused-requires c κs = search needs
 
--- src/names.rt:27:1
 returns-2 : tie.Need-returns-2
 unfolding binds
 returns-2 c = search cases

@@ -8,19 +8,15 @@ use Rattle.target_tags.proofs.names.counts.Lts as lts
 use Rattle.target_tags.proofs.names.params_of.Reads as params-of-reads
 use Rattle.target_tags.proofs.names.refused.Reads as refused-reads
 
--- src/names.rt:88:17
 params-of-requires : tie.Need-params-of-requires
 params-of-requires c κs = search needs
 
--- src/names.rt:89:9
 returns : tie.Need-returns
 returns c = arity-right _ _ _ _ _ (c .before .params-of .ensures) (c .if1 .taken)
 
--- src/names.rt:91:5
 refused-requires : tie.Need-refused-requires
 refused-requires c κs = search needs
 
--- src/names.rt:85:1
 returns-2 : tie.Need-returns-2
 returns-2 c = c .refused .ensures ∙ arity-wrong _ _ _ _ _ (c .before .before .params-of .ensures) (c .before .if1 .left)
 

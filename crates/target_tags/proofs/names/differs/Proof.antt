@@ -7,16 +7,13 @@ use Rattle.target_tags.proofs.names.differs.Reads as reads
 use Rattle.target_tags.proofs.names.differs.Lts as lts
 use Rattle.target_tags.proofs.names.refused.Reads as refused-reads
 
--- src/names.rt:54:9
 refused-requires : tie.Need-refused-requires
 refused-requires c κs = search needs
 
--- src/names.rt:54:9
 returns : tie.Need-returns
 unfolding differ
 returns c = search cases
 
--- src/names.rt:50:1
 returns-2 : tie.Need-returns-2
 unfolding differ
 returns-2 c = search cases

@@ -16,40 +16,31 @@ Inv-loop params kinds₀ i₀ kinds i = (i ≤ params) × (kinds ≡ entryKinds 
 abbrev μ-loop : tie.MeasureT-loop
 μ-loop params kinds₀ i₀ kinds i = params - i
 
--- src/names.rt:306:5
 array-write-kinds : tie.Need-array-write-kinds Inv-loop μ-loop
 array-write-kinds c = search needs
 
--- src/names.rt:307:5
 array-write-kinds-2 : tie.Need-array-write-kinds-2 Inv-loop μ-loop
 array-write-kinds-2 c = search needs
 
--- src/names.rt:309:5
 loop-holds : tie.Need-loop-holds Inv-loop μ-loop
 unfolding entryKinds
 loop-holds c = (omega arith, refl)
 
--- src/names.rt:310:29
 add-bind : tie.Need-add-bind Inv-loop μ-loop
 add-bind c = search needs
 
--- src/names.rt:310:17
 bind-requires : tie.Need-bind-requires Inv-loop μ-loop
 bind-requires c κs = tt
 
--- src/names.rt:311:9
 add-i : tie.Need-add-i Inv-loop μ-loop
 add-i c = search needs
 
--- src/names.rt:309:5
 loop-less : tie.Need-loop-less Inv-loop μ-loop
 loop-less c = search needs
 
--- src/names.rt:309:5
 loop-again : tie.Need-loop-again Inv-loop μ-loop
 loop-again c = (omega arith, entry-more _ _ _ (c .before .before .loop .inv .1) (c .bind .ensures))
 
--- src/names.rt:301:1
 returns : tie.Need-returns Inv-loop μ-loop
 returns c = c .before .loop .inv .1 ∙ ap entryKinds (omega arith)
 

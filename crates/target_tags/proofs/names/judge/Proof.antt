@@ -6,16 +6,13 @@ use Rattle.target_tags.proofs.names.judge.Reads as reads
 use Rattle.target_tags.proofs.names.judge.Lts as lts
 use Rattle.target_tags.proofs.names.names_of.Reads as names-of-reads
 
--- src/names.rt:246:9
 names-of-requires : tie.Need-names-of-requires
 names-of-requires c κs = search needs
 
--- src/names.rt:246:9
 returns : tie.Need-returns
 unfolding judged
 returns c = rw (c .before .if1 .taken) (c .names-of .ensures)
 
--- src/names.rt:234:1
 returns-2 : tie.Need-returns-2
 unfolding judged
 returns-2 c = rw (c .if1 .left)

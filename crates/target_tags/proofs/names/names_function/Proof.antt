@@ -7,16 +7,13 @@ use Rattle.target_tags.proofs.names.names_function.Reads as reads
 use Rattle.target_tags.proofs.names.names_function.Lts as lts
 use Rattle.target_tags.proofs.names.refused.Reads as refused-reads
 
--- src/names.rt:64:9
 returns : tie.Need-returns
 unfolding function
 returns c = search cases
 
--- src/names.rt:66:5
 refused-requires : tie.Need-refused-requires
 refused-requires c κs = search needs
 
--- src/names.rt:60:1
 returns-2 : tie.Need-returns-2
 unfolding function
 returns-2 c = search cases

@@ -7,19 +7,15 @@ use Rattle.target_tags.proofs.names.params_of.Reads as reads
 use Rattle.target_tags.proofs.names.params_of.Lts as lts
 use Rattle.target_tags.proofs.tag.wide.Reads as wide-reads
 
--- src/names.rt:79:21
 shared-slice-read-wide : tie.Need-shared-slice-read-wide
 shared-slice-read-wide c = search needs
 
--- src/names.rt:79:9
 wide-requires : tie.Need-wide-requires
 wide-requires c κs = search needs
 
--- src/names.rt:79:9
 returns : tie.Need-returns
 returns c = search needs
 
--- src/names.rt:75:1
 returns-2 : tie.Need-returns-2
 returns-2 c = sym (List·getD-eq-default (c .before .before .args .params .now) 0 (c .if1 .left))
 

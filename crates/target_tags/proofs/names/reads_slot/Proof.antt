@@ -7,29 +7,23 @@ use Rattle.target_tags.proofs.names.reads_slot.Reads as reads
 use Rattle.target_tags.proofs.names.reads_slot.Lts as lts
 use Rattle.target_tags.proofs.names.refused.Reads as refused-reads
 
--- src/names.rt:41:12
 array-read-if2 : tie.Need-array-read-if2
 array-read-if2 c = search needs
 
--- src/names.rt:42:13
 returns : tie.Need-returns
 unfolding reads binds
 returns c = search cases
 
--- src/names.rt:44:9
 refused-requires : tie.Need-refused-requires
 refused-requires c κs = search needs
 
--- src/names.rt:44:9
 returns-2 : tie.Need-returns-2
 unfolding reads binds
 returns-2 c = search cases
 
--- src/names.rt:46:5
 refused-requires-2 : tie.Need-refused-requires-2
 refused-requires-2 c κs = search needs
 
--- src/names.rt:37:1
 returns-3 : tie.Need-returns-3
 unfolding reads binds
 returns-3 c = search cases

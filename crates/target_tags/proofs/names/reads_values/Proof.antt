@@ -19,51 +19,49 @@ Inv-loop file kinds start count at₀ left₀ at left =
 abbrev μ-loop : tie.MeasureT-loop
 μ-loop file kinds start count at₀ left₀ at left = left
 
--- src/names.rt:101:5
 loop-holds : tie.Need-loop-holds Inv-loop μ-loop
 loop-holds c = (c .before .pre, refl)
 
--- src/names.rt:102:9
 sub-left : tie.Need-sub-left Inv-loop μ-loop
 sub-left c = search needs
 
--- src/names.rt:103:41
 shared-slice-read-wide : tie.Need-shared-slice-read-wide Inv-loop μ-loop
 shared-slice-read-wide c = search needs
 
--- src/names.rt:103:36
 wide-requires : tie.Need-wide-requires Inv-loop μ-loop
 wide-requires c κs = search needs
 
--- src/names.rt:103:15
 reads-slot-requires : tie.Need-reads-slot-requires Inv-loop μ-loop
 reads-slot-requires c κs = search needs
 
--- src/names.rt:104:30
 enum-known-r : tie.Need-enum-known-r Inv-loop μ-loop
 enum-known-r c = search needs
 
--- src/names.rt:105:17
 returns : tie.Need-returns Inv-loop μ-loop
-returns c = values-stop _ _ _ _ (c .before .before .before .before .wide .ensures) _ _ (c .before .before .before .before .before .before .loop-test .taken) (sym (c .before .before .before .reads-slot .ensures) ∙ c .before .r .given .1) ∙ c .before .before .before .before .before .before .before .loop .inv .1
+returns c =
+    let at-reads-slot = c .before .before .before in
+    let at-wide = at-reads-slot .before in
+    let at-loop-test = at-wide .before .before in
+    let at-loop = at-loop-test .before in
+    values-stop _ _ _ _ (at-wide .wide .ensures) _ _ (at-loop-test .loop-test .taken) (sym (at-reads-slot .reads-slot .ensures) ∙ c .before .r .given .1) ∙ at-loop .loop .inv .1
 
--- src/names.rt:108:17
 enum-told : tie.Need-enum-told Inv-loop μ-loop
 enum-told c = search needs
 
--- src/names.rt:108:17
 add-at : tie.Need-add-at Inv-loop μ-loop
 add-at c = search needs
 
--- src/names.rt:101:5
 loop-less : tie.Need-loop-less Inv-loop μ-loop
 loop-less c = search needs
 
--- src/names.rt:101:5
 loop-again : tie.Need-loop-again Inv-loop μ-loop
-loop-again c = (omega arith, values-on _ _ _ _ (c .before .before .before .wide .ensures) _ (c .before .before .before .before .before .loop-test .taken) (sym (c .before .before .reads-slot .ensures) ∙ c .enum-told .given .1) ∙ c .before .before .before .before .before .before .loop .inv .1)
+loop-again c =
+    let at-before = c .before .before in
+    let at-wide = at-before .before in
+    let at-loop-test = at-wide .before .before in
+    let at-loop = at-loop-test .before in
+    (omega arith, values-on _ _ _ _ (at-wide .wide .ensures) _ (at-loop-test .loop-test .taken) (sym (at-before .reads-slot .ensures) ∙ c .enum-told .given .1) ∙ at-loop .loop .inv .1)
 
--- src/names.rt:95:1
 returns-2 : tie.Need-returns-2 Inv-loop μ-loop
 returns-2 c = values-none _ _ _ _ (c .loop-test .left) ∙ c .before .loop .inv .1
 

@@ -10,65 +10,53 @@ use Rattle.target_tags.proofs.tag.cut.Reads as cut-reads
 use Rattle.target_tags.proofs.tag.pair.Reads as pair-reads
 use Rattle.target_tags.proofs.tag.wide.Reads as wide-reads
 
--- src/tag.rt:190:16
 add-next : tie.Need-add-next
 add-next c = search needs
 
--- src/tag.rt:192:9
 cut-requires : tie.Need-cut-requires
 cut-requires c κs = search needs
 
--- src/tag.rt:192:9
 returns : tie.Need-returns
 returns c = c .cut .ensures ∙ branch-cut _ _ (c .before .if1 .taken)
 
--- src/tag.rt:194:26
 add-wide : tie.Need-add-wide
 add-wide c = search needs
 
--- src/tag.rt:194:21
 shared-slice-read-wide : tie.Need-shared-slice-read-wide
 shared-slice-read-wide c = search needs
 
--- src/tag.rt:194:9
 wide-requires : tie.Need-wide-requires
 wide-requires c κs = search needs
 
--- src/tag.rt:195:27
 add-wide-2 : tie.Need-add-wide-2
 add-wide-2 c = search needs
 
--- src/tag.rt:195:22
 shared-slice-read-wide-2 : tie.Need-shared-slice-read-wide-2
 shared-slice-read-wide-2 c = search needs
 
--- src/tag.rt:195:9
 wide-requires-2 : tie.Need-wide-requires-2
 wide-requires-2 c κs = search needs
 
--- src/tag.rt:196:17
 add-field : tie.Need-add-field
 add-field c = search needs
 
--- src/tag.rt:197:21
 shared-slice-read-pair : tie.Need-shared-slice-read-pair
 shared-slice-read-pair c = search needs
 
--- src/tag.rt:197:39
 add-pair : tie.Need-add-pair
 add-pair c = search needs
 
--- src/tag.rt:197:34
 shared-slice-read-pair-2 : tie.Need-shared-slice-read-pair-2
 shared-slice-read-pair-2 c = search needs
 
--- src/tag.rt:197:9
 pair-requires : tie.Need-pair-requires
 pair-requires c κs = search needs
 
--- src/tag.rt:186:1
 returns-2 : tie.Need-returns-2
-returns-2 c = branch-in _ _ _ _ _ (omega arith) (c .before .before .before .before .before .wide .ensures) (c .before .before .before .wide2 .ensures) (c .pair .ensures)
+returns-2 c =
+    let at-wide2 = c .before .before .before in
+    let at-wide = at-wide2 .before .before in
+    branch-in _ _ _ _ _ (omega arith) (at-wide .wide .ensures) (at-wide2 .wide2 .ensures) (c .pair .ensures)
 
 pub branch-at-spec : {M : Type 1} → statement M
 branch-at-spec =

@@ -11,69 +11,55 @@ use Rattle.parsing.proofs.value.Reads as value-reads
 use Rattle.target_tags.proofs.tag.cut.Reads as cut-reads
 use Rattle.target_tags.proofs.tag.wide.Reads as wide-reads
 
--- src/tag.rt:90:16
 add-next : tie.Need-add-next
 add-next c = search needs
 
--- src/tag.rt:92:9
 cut-requires : tie.Need-cut-requires
 cut-requires c κs = search needs
 
--- src/tag.rt:92:9
 returns : tie.Need-returns
 returns c = c .cut .ensures ∙ constant-cut _ _ (c .before .if1 .taken)
 
--- src/tag.rt:94:26
 add-wide : tie.Need-add-wide
 add-wide c = search needs
 
--- src/tag.rt:94:21
 shared-slice-read-wide : tie.Need-shared-slice-read-wide
 shared-slice-read-wide c = search needs
 
--- src/tag.rt:94:9
 wide-requires : tie.Need-wide-requires
 wide-requires c κs = search needs
 
--- src/tag.rt:95:13
 add-i : tie.Need-add-i
 add-i c = search needs
 
--- src/tag.rt:96:32
 shared-slice-read-value : tie.Need-shared-slice-read-value
 shared-slice-read-value c = search needs
 
--- src/tag.rt:96:46
 add-value : tie.Need-add-value
 add-value c = search needs
 
--- src/tag.rt:96:41
 shared-slice-read-value-2 : tie.Need-shared-slice-read-value-2
 shared-slice-read-value-2 c = search needs
 
--- src/tag.rt:96:59
 add-value-2 : tie.Need-add-value-2
 add-value-2 c = search needs
 
--- src/tag.rt:96:54
 shared-slice-read-value-3 : tie.Need-shared-slice-read-value-3
 shared-slice-read-value-3 c = search needs
 
--- src/tag.rt:96:72
 add-value-3 : tie.Need-add-value-3
 add-value-3 c = search needs
 
--- src/tag.rt:96:67
 shared-slice-read-value-4 : tie.Need-shared-slice-read-value-4
 shared-slice-read-value-4 c = search needs
 
--- src/tag.rt:96:9
 value-requires : tie.Need-value-requires
 value-requires c κs = search needs
 
--- src/tag.rt:86:1
 returns-2 : tie.Need-returns-2
-returns-2 c = constant-in _ _ _ _ (omega arith) (c .before .before .before .before .before .wide .ensures) (toZ-ofZ (record { sfits = c .value .ok }) ∙ c .value .ensures)
+returns-2 c =
+    let at-wide = c .before .before .before .before .before in
+    constant-in _ _ _ _ (omega arith) (at-wide .wide .ensures) (toZ-ofZ (record { sfits = c .value .ok }) ∙ c .value .ensures)
 
 pub constant-at-spec : {M : Type 1} → statement M
 constant-at-spec =

@@ -9,43 +9,33 @@ use Rattle.target_tags.proofs.tag.copy_at.Lts as lts
 use Rattle.target_tags.proofs.tag.cut.Reads as cut-reads
 use Rattle.target_tags.proofs.tag.wide.Reads as wide-reads
 
--- src/tag.rt:104:16
 add-next : tie.Need-add-next
 add-next c = search needs
 
--- src/tag.rt:106:9
 cut-requires : tie.Need-cut-requires
 cut-requires c κs = search needs
 
--- src/tag.rt:106:9
 returns : tie.Need-returns
 returns c = c .cut .ensures ∙ copy-cut _ _ (c .before .if1 .taken)
 
--- src/tag.rt:108:26
 add-wide : tie.Need-add-wide
 add-wide c = search needs
 
--- src/tag.rt:108:21
 shared-slice-read-wide : tie.Need-shared-slice-read-wide
 shared-slice-read-wide c = search needs
 
--- src/tag.rt:108:9
 wide-requires : tie.Need-wide-requires
 wide-requires c κs = search needs
 
--- src/tag.rt:109:26
 add-wide-2 : tie.Need-add-wide-2
 add-wide-2 c = search needs
 
--- src/tag.rt:109:21
 shared-slice-read-wide-2 : tie.Need-shared-slice-read-wide-2
 shared-slice-read-wide-2 c = search needs
 
--- src/tag.rt:109:9
 wide-requires-2 : tie.Need-wide-requires-2
 wide-requires-2 c κs = search needs
 
--- src/tag.rt:100:1
 returns-2 : tie.Need-returns-2
 returns-2 c = copy-in _ _ _ _ (omega arith) (c .before .before .wide .ensures) (c .wide2 .ensures)
 

@@ -9,57 +9,46 @@ use Rattle.target_tags.proofs.tag.difference_at.Lts as lts
 use Rattle.target_tags.proofs.tag.cut.Reads as cut-reads
 use Rattle.target_tags.proofs.tag.wide.Reads as wide-reads
 
--- src/tag.rt:117:16
 add-next : tie.Need-add-next
 add-next c = search needs
 
--- src/tag.rt:119:9
 cut-requires : tie.Need-cut-requires
 cut-requires c κs = search needs
 
--- src/tag.rt:119:9
 returns : tie.Need-returns
 returns c = c .cut .ensures ∙ difference-cut _ _ (c .before .if1 .taken)
 
--- src/tag.rt:121:26
 add-wide : tie.Need-add-wide
 add-wide c = search needs
 
--- src/tag.rt:121:21
 shared-slice-read-wide : tie.Need-shared-slice-read-wide
 shared-slice-read-wide c = search needs
 
--- src/tag.rt:121:9
 wide-requires : tie.Need-wide-requires
 wide-requires c κs = search needs
 
--- src/tag.rt:122:26
 add-wide-2 : tie.Need-add-wide-2
 add-wide-2 c = search needs
 
--- src/tag.rt:122:21
 shared-slice-read-wide-2 : tie.Need-shared-slice-read-wide-2
 shared-slice-read-wide-2 c = search needs
 
--- src/tag.rt:122:9
 wide-requires-2 : tie.Need-wide-requires-2
 wide-requires-2 c κs = search needs
 
--- src/tag.rt:123:27
 add-wide-3 : tie.Need-add-wide-3
 add-wide-3 c = search needs
 
--- src/tag.rt:123:22
 shared-slice-read-wide-3 : tie.Need-shared-slice-read-wide-3
 shared-slice-read-wide-3 c = search needs
 
--- src/tag.rt:123:9
 wide-requires-3 : tie.Need-wide-requires-3
 wide-requires-3 c κs = search needs
 
--- src/tag.rt:113:1
 returns-2 : tie.Need-returns-2
-returns-2 c = difference-in _ _ _ _ _ (omega arith) (c .before .before .before .before .wide .ensures) (c .before .before .wide2 .ensures) (c .wide3 .ensures)
+returns-2 c =
+    let at-wide = c .before .before .before .before in
+    difference-in _ _ _ _ _ (omega arith) (at-wide .wide .ensures) (c .before .before .wide2 .ensures) (c .wide3 .ensures)
 
 pub difference-at-spec : {M : Type 1} → statement M
 difference-at-spec =

@@ -9,31 +9,24 @@ use Rattle.target_tags.proofs.tag.handle_at.Lts as lts
 use Rattle.target_tags.proofs.tag.cut.Reads as cut-reads
 use Rattle.target_tags.proofs.tag.wide.Reads as wide-reads
 
--- src/tag.rt:178:16
 add-next : tie.Need-add-next
 add-next c = search needs
 
--- src/tag.rt:180:9
 cut-requires : tie.Need-cut-requires
 cut-requires c κs = search needs
 
--- src/tag.rt:180:9
 returns : tie.Need-returns
 returns c = c .cut .ensures ∙ handle-cut _ _ (c .before .if1 .taken)
 
--- src/tag.rt:182:29
 add-wide : tie.Need-add-wide
 add-wide c = search needs
 
--- src/tag.rt:182:24
 shared-slice-read-wide : tie.Need-shared-slice-read-wide
 shared-slice-read-wide c = search needs
 
--- src/tag.rt:182:9
 wide-requires : tie.Need-wide-requires
 wide-requires c κs = search needs
 
--- src/tag.rt:174:1
 returns-2 : tie.Need-returns-2
 returns-2 c = handle-in _ _ _ (omega arith) (c .wide .ensures)
 

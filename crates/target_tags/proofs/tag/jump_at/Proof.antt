@@ -11,89 +11,73 @@ use Rattle.target_tags.proofs.tag.cut.Reads as cut-reads
 use Rattle.target_tags.proofs.tag.pair.Reads as pair-reads
 use Rattle.target_tags.proofs.tag.wide.Reads as wide-reads
 
--- src/tag.rt:136:18
 add-values : tie.Need-add-values
 add-values c = search needs
 
--- src/tag.rt:138:9
 cut-requires : tie.Need-cut-requires
 cut-requires c κs = search needs
 
--- src/tag.rt:138:9
 returns : tie.Need-returns
 returns c = c .cut .ensures ∙ jump-cut _ _ (c .before .if1 .taken)
 
--- src/tag.rt:140:27
 add-wide : tie.Need-add-wide
 add-wide c = search needs
 
--- src/tag.rt:140:22
 shared-slice-read-wide : tie.Need-shared-slice-read-wide
 shared-slice-read-wide c = search needs
 
--- src/tag.rt:140:9
 wide-requires : tie.Need-wide-requires
 wide-requires c κs = search needs
 
--- src/tag.rt:141:16
 add-next : tie.Need-add-next
-add-next c = let e = c .wide .ensures in let k = c .before .shared-slice-known2 .given (c .before .before .before .before .args .at + 5) in omega arith
+add-next c =
+    let entry = c .before .before .before .before in
+    let e = c .wide .ensures in let k = c .before .shared-slice-known2 .given (entry .args .at + 5) in omega arith
 
--- src/tag.rt:143:9
 cut-requires-2 : tie.Need-cut-requires-2
 cut-requires-2 c κs = search needs
 
--- src/tag.rt:143:9
 returns-2 : tie.Need-returns-2
 returns-2 c = c .cut2 .ensures ∙ jump-short _ _ _ (omega arith) (c .before .before .wide .ensures) (c .before .if2 .taken)
 
--- src/tag.rt:145:17
 add-field : tie.Need-add-field
 add-field c = search needs
 
--- src/tag.rt:146:25
 shared-slice-read-pair : tie.Need-shared-slice-read-pair
 shared-slice-read-pair c = search needs
 
--- src/tag.rt:146:43
 add-pair : tie.Need-add-pair
 add-pair c = search needs
 
--- src/tag.rt:146:38
 shared-slice-read-pair-2 : tie.Need-shared-slice-read-pair-2
 shared-slice-read-pair-2 c = search needs
 
--- src/tag.rt:146:9
 pair-requires : tie.Need-pair-requires
 pair-requires c κs = search needs
 
--- src/tag.rt:147:34
 add-wide-2 : tie.Need-add-wide-2
 add-wide-2 c = search needs
 
--- src/tag.rt:147:29
 shared-slice-read-wide-2 : tie.Need-shared-slice-read-wide-2
 shared-slice-read-wide-2 c = search needs
 
--- src/tag.rt:147:9
 wide-requires-2 : tie.Need-wide-requires-2
 wide-requires-2 c κs = search needs
 
--- src/tag.rt:148:29
 add-wide-3 : tie.Need-add-wide-3
 add-wide-3 c = search needs
 
--- src/tag.rt:148:24
 shared-slice-read-wide-3 : tie.Need-shared-slice-read-wide-3
 shared-slice-read-wide-3 c = search needs
 
--- src/tag.rt:148:9
 wide-requires-3 : tie.Need-wide-requires-3
 wide-requires-3 c κs = search needs
 
--- src/tag.rt:132:1
 returns-3 : tie.Need-returns-3
-returns-3 c = jump-in _ _ _ _ _ _ (omega arith) (c .before .before .before .before .pair .ensures) (c .before .before .wide2 .ensures) (c .wide3 .ensures) (c .before .before .before .before .before .before .before .before .wide .ensures)
+returns-3 c =
+    let at-pair = c .before .before .before .before in
+    let at-wide = at-pair .before .before .before .before in
+    jump-in _ _ _ _ _ _ (omega arith) (at-pair .pair .ensures) (c .before .before .wide2 .ensures) (c .wide3 .ensures) (at-wide .wide .ensures)
 
 pub jump-at-spec : {M : Type 1} → statement M
 jump-at-spec =

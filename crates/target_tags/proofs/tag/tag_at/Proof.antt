@@ -17,91 +17,69 @@ use Rattle.target_tags.proofs.tag.handle_at.Reads as handle-at-reads
 use Rattle.target_tags.proofs.tag.jump_at.Reads as jump-at-reads
 use Rattle.target_tags.proofs.tag.resume_at.Reads as resume-at-reads
 
--- src/tag.rt:253:9
 cut-requires : tie.Need-cut-requires
 cut-requires c κs = search needs
 
--- src/tag.rt:253:9
 returns : tie.Need-returns
 returns c = c .cut .ensures ∙ tag-past _ _ (c .before .if1 .taken)
 
--- src/tag.rt:255:11
 shared-slice-read-match : tie.Need-shared-slice-read-match
 shared-slice-read-match c = search needs
 
--- src/tag.rt:256:14
 constant-at-requires : tie.Need-constant-at-requires
 constant-at-requires c κs = search needs
 
--- src/tag.rt:257:14
 copy-at-requires : tie.Need-copy-at-requires
 copy-at-requires c κs = search needs
 
--- src/tag.rt:258:14
 difference-at-requires : tie.Need-difference-at-requires
 difference-at-requires c κs = search needs
 
--- src/tag.rt:259:14
 jump-at-requires : tie.Need-jump-at-requires
 jump-at-requires c κs = search needs
 
--- src/tag.rt:260:14
 resume-at-requires : tie.Need-resume-at-requires
 resume-at-requires c κs = search needs
 
--- src/tag.rt:261:14
 handle-at-requires : tie.Need-handle-at-requires
 handle-at-requires c κs = search needs
 
--- src/tag.rt:262:14
 branch-at-requires : tie.Need-branch-at-requires
 branch-at-requires c κs = search needs
 
--- src/tag.rt:263:14
 continuation-at-requires : tie.Need-continuation-at-requires
 continuation-at-requires c κs = search needs
 
--- src/tag.rt:264:14
 both-at-requires : tie.Need-both-at-requires
 both-at-requires c κs = search needs
 
--- src/tag.rt:249:1
 returns-2 : tie.Need-returns-2
 returns-2 c = c .constant-at .ensures ∙ tag-1 _ _ (omega arith) (c .before .match .keys1)
 
--- src/tag.rt:249:1
 returns-3 : tie.Need-returns-3
 returns-3 c = c .copy-at .ensures ∙ tag-2 _ _ (omega arith) (c .before .match .keys2)
 
--- src/tag.rt:249:1
 returns-4 : tie.Need-returns-4
 returns-4 c = c .difference-at .ensures ∙ tag-3 _ _ (omega arith) (c .before .match .keys3)
 
--- src/tag.rt:249:1
 returns-5 : tie.Need-returns-5
 returns-5 c = c .jump-at .ensures ∙ tag-4 _ _ (omega arith) (c .before .match .keys4)
 
--- src/tag.rt:249:1
 returns-6 : tie.Need-returns-6
 returns-6 c = c .resume-at .ensures ∙ tag-5 _ _ (omega arith) (c .before .match .keys5)
 
--- src/tag.rt:249:1
 returns-7 : tie.Need-returns-7
 returns-7 c = c .handle-at .ensures ∙ tag-6 _ _ (omega arith) (c .before .match .keys6)
 
--- src/tag.rt:249:1
 returns-8 : tie.Need-returns-8
 returns-8 c = c .branch-at .ensures ∙ tag-7 _ _ (omega arith) (c .before .match .keys7)
 
--- src/tag.rt:249:1
 returns-9 : tie.Need-returns-9
 returns-9 c = c .continuation-at .ensures ∙ tag-8 _ _ (omega arith) (c .before .match .keys8)
 
--- src/tag.rt:249:1
 returns-10 : tie.Need-returns-10
 returns-10 c = c .both-at .ensures ∙ tag-9 _ _ (omega arith) (c .before .match .keys9)
 
--- src/tag.rt:249:1
 returns-11 : tie.Need-returns-11
 returns-11 c = let r = c .match .rest in tag-unknown _ _ (omega arith) (r .0 .0 .0 .0 .0 .0 .0 .0 .1) (r .0 .0 .0 .0 .0 .0 .0 .1) (r .0 .0 .0 .0 .0 .0 .1) (r .0 .0 .0 .0 .0 .1) (r .0 .0 .0 .0 .1) (r .0 .0 .0 .1) (r .0 .0 .1) (r .0 .1) (r .1)
 

@@ -17,14 +17,31 @@ Inv-loop file numbers base v h start out₀ o at₀ place₀ out at place = Turn
 abbrev μ-loop : tie.MeasureT-loop
 μ-loop file numbers base v h start out₀ o at₀ place₀ out at place = length file - at
 
+-- Ways back to earlier places that several answers take.
+abbrev put-operation-before-after-of : tie.After-after-of Inv-loop μ-loop → tie.After-put-operation Inv-loop μ-loop
+put-operation-before-after-of c = c .before .before .before
+
+abbrev put-operation-before-enum-told : tie.After-enum-told Inv-loop μ-loop → tie.After-put-operation Inv-loop μ-loop
+put-operation-before-enum-told c = c .before .before .before .before .before
+
+abbrev put-operation-before-enum-told2 : tie.After-enum-told2 Inv-loop μ-loop → tie.After-put-operation Inv-loop μ-loop
+put-operation-before-enum-told2 c = c .before .before .before .before .before
+
+abbrev after-of-before-known-told : tie.After-known-told Inv-loop μ-loop → tie.After-after-of Inv-loop μ-loop
+after-of-before-known-told c = c .before .before .before
+
 loop-holds : tie.Need-loop-holds Inv-loop μ-loop
-loop-holds c = turn-none (c .before .before .pre .0) (c .before .before .pre .1)
+loop-holds c =
+    let entry = c .before .before in
+    turn-none (entry .pre .0) (entry .pre .1)
 
 operation-at-requires : tie.Need-operation-at-requires Inv-loop μ-loop
 operation-at-requires c κs = tt
 
 put-operation-requires : tie.Need-put-operation-requires Inv-loop μ-loop
-put-operation-requires c κs = ((c .before .before .loop .inv .placed, c .before .operation-at .ensures), turn-room (c .before .before .loop .inv) (c .before .operation-at .ensures))
+put-operation-requires c κs =
+    let at-loop = c .before .before in
+    ((at-loop .loop .inv .placed, c .before .operation-at .ensures), turn-room (at-loop .loop .inv) (c .before .operation-at .ensures))
 
 after-of-requires : tie.Need-after-of-requires Inv-loop μ-loop
 after-of-requires c κs = search needs
@@ -33,28 +50,54 @@ enum-known-next : tie.Need-enum-known-next Inv-loop μ-loop
 enum-known-next c = search needs
 
 loop-less : tie.Need-loop-less Inv-loop μ-loop
-loop-less c = let m = turn-moves (c .before .before .before .before .before .before .before .before .before .loop .inv) (c .before .before .before .before .before .before .before .before .operation-at .ensures) (c .before .before .before .before .before .before .put-operation .ensures) (c .before .before .before .after-of .ensures) (c .before .next .given .1) in omega (arith, m .0, m .1)
+loop-less c =
+    let at-after-of = after-of-before-known-told c in
+    let at-put-operation = put-operation-before-after-of at-after-of in
+    let at-operation-at = at-put-operation .before .before in
+    let at-loop = at-operation-at .before in
+    let m = turn-moves (at-loop .loop .inv) (at-operation-at .operation-at .ensures) (at-put-operation .put-operation .ensures) (at-after-of .after-of .ensures) (c .before .next .given .1) in omega (arith, m .0, m .1)
 
 loop-again : tie.Need-loop-again Inv-loop μ-loop
-loop-again c = turn-next (c .before .before .before .before .before .before .before .before .before .loop .inv) (c .before .before .before .before .before .before .before .before .operation-at .ensures) (c .before .before .before .before .before .before .put-operation .ensures) (c .before .before .before .after-of .ensures) (c .before .next .given .1)
+loop-again c =
+    let at-after-of = after-of-before-known-told c in
+    let at-put-operation = put-operation-before-after-of at-after-of in
+    let at-operation-at = at-put-operation .before .before in
+    let at-loop = at-operation-at .before in
+    turn-next (at-loop .loop .inv) (at-operation-at .operation-at .ensures) (at-put-operation .put-operation .ensures) (at-after-of .after-of .ensures) (c .before .next .given .1)
 
 enum-told : tie.Need-enum-told Inv-loop μ-loop
 enum-told c = search needs
 
 same-length : tie.Need-same-length Inv-loop μ-loop
-same-length c = long (turn-room (c .before .before .before .before .before .before .before .before .loop .inv) (c .before .before .before .before .before .before .before .operation-at .ensures)) (c .before .before .before .before .before .put-operation .ensures) ∙ c .before .before .before .before .before .before .before .before .loop .inv .rest .long
+same-length c =
+    let at-put-operation = put-operation-before-enum-told c in
+    let at-operation-at = at-put-operation .before .before in
+    let at-loop = at-operation-at .before in
+    long (turn-room (at-loop .loop .inv) (at-operation-at .operation-at .ensures)) (at-put-operation .put-operation .ensures) ∙ at-loop .loop .inv .rest .long
 
 returns : tie.Need-returns Inv-loop μ-loop
-returns c = turn-done (c .before .before .before .before .before .before .before .before .loop .inv) (c .before .before .before .before .before .before .before .operation-at .ensures) (c .before .before .before .before .before .put-operation .ensures) (c .before .before .after-of .ensures) (c .enum-told .given .1)
+returns c =
+    let at-put-operation = put-operation-before-enum-told c in
+    let at-operation-at = at-put-operation .before .before in
+    let at-loop = at-operation-at .before in
+    turn-done (at-loop .loop .inv) (at-operation-at .operation-at .ensures) (at-put-operation .put-operation .ensures) (c .before .before .after-of .ensures) (c .enum-told .given .1)
 
 enum-told-2 : tie.Need-enum-told-2 Inv-loop μ-loop
 enum-told-2 c = search needs
 
 same-length-2 : tie.Need-same-length-2 Inv-loop μ-loop
-same-length-2 c = long (turn-room (c .before .before .before .before .before .before .before .before .loop .inv) (c .before .before .before .before .before .before .before .operation-at .ensures)) (c .before .before .before .before .before .put-operation .ensures) ∙ c .before .before .before .before .before .before .before .before .loop .inv .rest .long
+same-length-2 c =
+    let at-put-operation = put-operation-before-enum-told2 c in
+    let at-operation-at = at-put-operation .before .before in
+    let at-loop = at-operation-at .before in
+    long (turn-room (at-loop .loop .inv) (at-operation-at .operation-at .ensures)) (at-put-operation .put-operation .ensures) ∙ at-loop .loop .inv .rest .long
 
 returns-2 : tie.Need-returns-2 Inv-loop μ-loop
-returns-2 c = turn-never (c .before .before .before .before .before .before .before .before .loop .inv) (c .before .before .before .before .before .before .before .operation-at .ensures) (c .before .before .before .before .before .put-operation .ensures) (c .before .before .after-of .ensures) (c .enum-told2 .given .1)
+returns-2 c =
+    let at-put-operation = put-operation-before-enum-told2 c in
+    let at-operation-at = at-put-operation .before .before in
+    let at-loop = at-operation-at .before in
+    turn-never (at-loop .loop .inv) (at-operation-at .operation-at .ensures) (at-put-operation .put-operation .ensures) (c .before .before .after-of .ensures) (c .enum-told2 .given .1)
 
 pub put-block-spec : {M : Type 1} → statement M
 put-block-spec =

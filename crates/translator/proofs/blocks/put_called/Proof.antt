@@ -8,6 +8,10 @@ use borrow.Author.Needs.{needs}
 use Rattle.translator.proofs.blocks.put_called.Statement.{statement}
 use Rattle.translator.proofs.blocks.put_called.Tie as tie
 
+-- Ways back to earlier places that several answers take.
+abbrev entry-before-offset-number : tie.After-offset-number → tie.Start
+entry-before-offset-number c = c .before .before .before .before
+
 add-from : tie.Need-add-from
 add-from c = search needs
 
@@ -21,13 +25,19 @@ offset-number-requires : tie.Need-offset-number-requires
 offset-number-requires c κs = search needs
 
 put-call-requires : tie.Need-put-call-requires
-put-call-requires c κs = ((c .before .before .before .before .before .pre .0 .0, c .before .before .before .before .before .pre .0 .1, c .before .before .before .before .before .pre .0 .2, c .before .before .before .before .before .pre .0 .3, c .before .offset-number .ensures .1, c .before .before .before .before .before .pre .0 .5), room-as (ap (λ (k : ℕ). callBytes (c .before .before .before .before .before .args .base) (c .before .before .before .before .before .args .v) (c .before .before .before .before .before .args .h) (c .before .before .before .before .before .args .x) k (c .before .before .before .before .before .args .n) (argumentsAt (c .before .before .before .before .before .args .file .now) (c .before .before .before .before .before .args .at) (c .before .before .before .before .before .args .n))) (sym (c .before .offset-number .ensures .0))) (c .before .before .before .before .before .pre .1))
+put-call-requires c κs =
+    let at-offset-number = c .before in
+    let entry = entry-before-offset-number at-offset-number in
+    ((entry .pre .0 .0, entry .pre .0 .1, entry .pre .0 .2, entry .pre .0 .3, at-offset-number .offset-number .ensures .1, entry .pre .0 .5), room-as (ap (λ (k : ℕ). callBytes (entry .args .base) (entry .args .v) (entry .args .h) (entry .args .x) k (entry .args .n) (argumentsAt (entry .args .file .now) (entry .args .at) (entry .args .n))) (sym (at-offset-number .offset-number .ensures .0))) (entry .pre .1))
 
 same-length : tie.Need-same-length
 same-length c = search needs
 
 returns : tie.Need-returns
-returns c = wrote-as (ap (λ (k : ℕ). callBytes (c .before .before .before .before .before .before .before .before .args .base) (c .before .before .before .before .before .before .before .before .args .v) (c .before .before .before .before .before .before .before .before .args .h) (c .before .before .before .before .before .before .before .before .args .x) k (c .before .before .before .before .before .before .before .before .args .n) (argumentsAt (c .before .before .before .before .before .before .before .before .args .file .now) (c .before .before .before .before .before .before .before .before .args .at) (c .before .before .before .before .before .before .before .before .args .n))) (sym (c .before .before .before .before .offset-number .ensures .0))) (c .before .before .put-call .ensures)
+returns c =
+    let at-offset-number = c .before .before .before .before in
+    let entry = entry-before-offset-number at-offset-number in
+    wrote-as (ap (λ (k : ℕ). callBytes (entry .args .base) (entry .args .v) (entry .args .h) (entry .args .x) k (entry .args .n) (argumentsAt (entry .args .file .now) (entry .args .at) (entry .args .n))) (sym (at-offset-number .offset-number .ensures .0))) (c .before .before .put-call .ensures)
 
 pub put-called-spec : {M : Type 1} → statement M
 put-called-spec =

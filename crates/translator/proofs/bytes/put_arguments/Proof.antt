@@ -12,8 +12,14 @@ Inv-loop file from out₀ o n place₀ at₀ left₀ out place at left = Passing
 abbrev μ-loop : tie.MeasureT-loop
 μ-loop file from out₀ o n place₀ at₀ left₀ out place at left = left
 
+-- Ways back to earlier places that several answers take.
+abbrev in-loop-before-slice-known2 : tie.After-slice-known2 Inv-loop μ-loop → tie.In-loop Inv-loop μ-loop
+in-loop-before-slice-known2 c = c .before .before .before .before .before
+
 loop-holds : tie.Need-loop-holds Inv-loop μ-loop
-loop-holds c = passing-none (c .before .before .pre .0) (c .before .before .pre .1)
+loop-holds c =
+    let entry = c .before .before in
+    passing-none (entry .pre .0) (entry .pre .1)
 
 sub-left : tie.Need-sub-left Inv-loop μ-loop
 sub-left c = omega arith
@@ -25,16 +31,27 @@ add-slot : tie.Need-add-slot Inv-loop μ-loop
 add-slot c = omega (arith, passing-small (c .before .before .loop .inv) (c .before .loop-test .taken) .1)
 
 put-one-requires : tie.Need-put-one-requires Inv-loop μ-loop
-put-one-requires c κs = passing-room (c .before .before .before .loop .inv) (c .before .before .loop-test .taken)
+put-one-requires c κs =
+    let at-before = c .before .before in
+    let at-loop = at-before .before in
+    passing-room (at-loop .loop .inv) (at-before .loop-test .taken)
 
 add-at : tie.Need-add-at Inv-loop μ-loop
-add-at c = omega (arith, passing-small (c .before .before .before .before .before .before .loop .inv) (c .before .before .before .before .before .loop-test .taken) .0)
+add-at c =
+    let at-loop-test = in-loop-before-slice-known2 c in
+    let at-loop = at-loop-test .before in
+    omega (arith, passing-small (at-loop .loop .inv) (at-loop-test .loop-test .taken) .0)
 
 loop-less : tie.Need-loop-less Inv-loop μ-loop
-loop-less c = omega (arith, c .before .before .before .before .before .loop-test .taken)
+loop-less c =
+    let at-loop-test = in-loop-before-slice-known2 c in
+    omega (arith, at-loop-test .loop-test .taken)
 
 loop-again : tie.Need-loop-again Inv-loop μ-loop
-loop-again c = passing-more (c .before .before .before .before .before .before .loop .inv) (c .before .before .before .before .before .loop-test .taken) (c .before .before .put-one .ensures)
+loop-again c =
+    let at-loop-test = in-loop-before-slice-known2 c in
+    let at-loop = at-loop-test .before in
+    passing-more (at-loop .loop .inv) (at-loop-test .loop-test .taken) (c .before .before .put-one .ensures)
 
 same-length : tie.Need-same-length Inv-loop μ-loop
 same-length c = c .before .loop .inv .rest .long

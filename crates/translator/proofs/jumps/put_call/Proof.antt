@@ -6,22 +6,32 @@ use Rattle.translator.proofs.jumps.put_call.Statement.{statement}
 use Rattle.translator.proofs.jumps.put_call.Tie as tie
 
 put-plain-call-requires : tie.Need-put-plain-call-requires
-put-plain-call-requires c κs = ((c .before .before .before .before .pre .0 .1, c .before .before .before .before .pre .0 .2, c .before .before .before .before .pre .0 .3, c .before .before .before .before .pre .0 .4, c .before .before .before .before .pre .0 .5), room-as (plain-as (c .before .before .before .before .args .base) (c .before .before .before .before .args .v) (c .before .before .before .before .args .h) (c .before .before .before .before .args .x) (c .before .before .before .before .args .g) (c .before .before .before .before .args .n) (take (c .before .before .before .before .args .n) (drop (c .before .before .before .before .args .from) (c .before .before .before .before .args .file .now))) (c .before .if1 .taken)) (c .before .before .before .before .pre .1))
+put-plain-call-requires c κs =
+    let entry = c .before .before .before .before in
+    ((entry .pre .0 .1, entry .pre .0 .2, entry .pre .0 .3, entry .pre .0 .4, entry .pre .0 .5), room-as (plain-as (entry .args .base) (entry .args .v) (entry .args .h) (entry .args .x) (entry .args .g) (entry .args .n) (take (entry .args .n) (drop (entry .args .from) (entry .args .file .now))) (c .before .if1 .taken)) (entry .pre .1))
 
 put-guarded-call-requires : tie.Need-put-guarded-call-requires
-put-guarded-call-requires c κs = (c .before .before .before .before .pre .0, room-as (guarded-as (c .before .before .before .before .args .base) (c .before .before .before .before .args .v) (c .before .before .before .before .args .h) (c .before .before .before .before .args .x) (c .before .before .before .before .args .g) (c .before .before .before .before .args .n) (take (c .before .before .before .before .args .n) (drop (c .before .before .before .before .args .from) (c .before .before .before .before .args .file .now))) (c .before .if1 .left)) (c .before .before .before .before .pre .1))
+put-guarded-call-requires c κs =
+    let entry = c .before .before .before .before in
+    (entry .pre .0, room-as (guarded-as (entry .args .base) (entry .args .v) (entry .args .h) (entry .args .x) (entry .args .g) (entry .args .n) (take (entry .args .n) (drop (entry .args .from) (entry .args .file .now))) (c .before .if1 .left)) (entry .pre .1))
 
 same-length : tie.Need-same-length
 same-length c = search needs
 
 returns : tie.Need-returns
-returns c = wrote-as (plain-as (c .before .before .before .before .before .before .before .args .base) (c .before .before .before .before .before .before .before .args .v) (c .before .before .before .before .before .before .before .args .h) (c .before .before .before .before .before .before .before .args .x) (c .before .before .before .before .before .before .before .args .g) (c .before .before .before .before .before .before .before .args .n) (take (c .before .before .before .before .before .before .before .args .n) (drop (c .before .before .before .before .before .before .before .args .from) (c .before .before .before .before .before .before .before .args .file .now))) (c .before .before .before .before .if1 .taken)) (c .before .before .put-plain-call .ensures)
+returns c =
+    let at-if1 = c .before .before .before .before in
+    let entry = at-if1 .before .before .before in
+    wrote-as (plain-as (entry .args .base) (entry .args .v) (entry .args .h) (entry .args .x) (entry .args .g) (entry .args .n) (take (entry .args .n) (drop (entry .args .from) (entry .args .file .now))) (at-if1 .if1 .taken)) (c .before .before .put-plain-call .ensures)
 
 same-length-2 : tie.Need-same-length-2
 same-length-2 c = search needs
 
 returns-2 : tie.Need-returns-2
-returns-2 c = wrote-as (guarded-as (c .before .before .before .before .before .before .before .args .base) (c .before .before .before .before .before .before .before .args .v) (c .before .before .before .before .before .before .before .args .h) (c .before .before .before .before .before .before .before .args .x) (c .before .before .before .before .before .before .before .args .g) (c .before .before .before .before .before .before .before .args .n) (take (c .before .before .before .before .before .before .before .args .n) (drop (c .before .before .before .before .before .before .before .args .from) (c .before .before .before .before .before .before .before .args .file .now))) (c .before .before .before .before .if1 .left)) (c .before .before .put-guarded-call .ensures)
+returns-2 c =
+    let at-if1 = c .before .before .before .before in
+    let entry = at-if1 .before .before .before in
+    wrote-as (guarded-as (entry .args .base) (entry .args .v) (entry .args .h) (entry .args .x) (entry .args .g) (entry .args .n) (take (entry .args .n) (drop (entry .args .from) (entry .args .file .now))) (at-if1 .if1 .left)) (c .before .before .put-guarded-call .ensures)
 
 pub put-call-spec : {M : Type 1} → statement M
 put-call-spec =

@@ -11,18 +11,26 @@ use Rattle.translator.proofs.jumps.put_call_jump.Tie as tie
 
 put-jump-head-requires : tie.Need-put-jump-head-requires
 unfolding callJump
-put-jump-head-requires c κs = (c .before .before .before .pre .0 .0, room-front (jumpHead (c .before .before .before .args .g) (c .before .before .before .args .k) (c .before .before .before .args .h) (c .before .before .before .args .n)) (map slotOf (take (c .before .before .before .args .n) (drop (c .before .before .before .args .from) (c .before .before .before .args .file .now)))) (c .before .before .before .pre .1))
+put-jump-head-requires c κs =
+    let entry = c .before .before .before in
+    (entry .pre .0 .0, room-front (jumpHead (entry .args .g) (entry .args .k) (entry .args .h) (entry .args .n)) (map slotOf (take (entry .args .n) (drop (entry .args .from) (entry .args .file .now)))) (entry .pre .1))
 
 put-arguments-requires : tie.Need-put-arguments-requires
 unfolding callJump
-put-arguments-requires c κs = ((c .before .before .before .before .before .before .before .pre .0 .1 .inside, c .before .before .before .before .before .before .before .pre .0 .1 .small), room-back (jumpHead (c .before .before .before .before .before .before .before .args .g) (c .before .before .before .before .before .before .before .args .k) (c .before .before .before .before .before .before .before .args .h) (c .before .before .before .before .before .before .before .args .n)) (map slotOf (take (c .before .before .before .before .before .before .before .args .n) (drop (c .before .before .before .before .before .before .before .args .from) (c .before .before .before .before .before .before .before .args .file .now)))) (c .before .before .before .before .before .before .before .pre .1) (c .before .before .before .put-jump-head .ensures))
+put-arguments-requires c κs =
+    let at-put-jump-head = c .before .before .before in
+    let entry = at-put-jump-head .before .before .before .before in
+    ((entry .pre .0 .1 .inside, entry .pre .0 .1 .small), room-back (jumpHead (entry .args .g) (entry .args .k) (entry .args .h) (entry .args .n)) (map slotOf (take (entry .args .n) (drop (entry .args .from) (entry .args .file .now)))) (entry .pre .1) (at-put-jump-head .put-jump-head .ensures))
 
 same-length : tie.Need-same-length
 same-length c = search needs
 
 returns : tie.Need-returns
 unfolding callJump
-returns c = wrote-both (jumpHead (c .before .before .before .before .before .before .before .before .before .before .args .g) (c .before .before .before .before .before .before .before .before .before .before .args .k) (c .before .before .before .before .before .before .before .before .before .before .args .h) (c .before .before .before .before .before .before .before .before .before .before .args .n)) (map slotOf (take (c .before .before .before .before .before .before .before .before .before .before .args .n) (drop (c .before .before .before .before .before .before .before .before .before .before .args .from) (c .before .before .before .before .before .before .before .before .before .before .args .file .now)))) (c .before .before .before .before .before .before .before .before .before .before .pre .1) (c .before .before .before .before .before .before .put-jump-head .ensures) (c .before .before .put-arguments .ensures)
+returns c =
+    let at-put-jump-head = c .before .before .before .before .before .before in
+    let entry = at-put-jump-head .before .before .before .before in
+    wrote-both (jumpHead (entry .args .g) (entry .args .k) (entry .args .h) (entry .args .n)) (map slotOf (take (entry .args .n) (drop (entry .args .from) (entry .args .file .now)))) (entry .pre .1) (at-put-jump-head .put-jump-head .ensures) (c .before .before .put-arguments .ensures)
 
 pub put-call-jump-spec : {M : Type 1} → statement M
 put-call-jump-spec =

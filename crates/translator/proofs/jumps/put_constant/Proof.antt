@@ -12,6 +12,10 @@ use borrow.Author.Needs.{needs}
 use Rattle.translator.proofs.jumps.put_constant.Statement.{statement}
 use Rattle.translator.proofs.jumps.put_constant.Tie as tie
 
+-- Ways back to earlier places that several answers take.
+abbrev shared-slice-known-before-put-two : tie.After-put-two → tie.After-shared-slice-known
+shared-slice-known-before-put-two c = c .before .before .before
+
 add-slot : tie.Need-add-slot
 add-slot c = search needs
 
@@ -25,7 +29,9 @@ add-fourth : tie.Need-add-fourth
 add-fourth c = search needs
 
 put-two-requires : tie.Need-put-two-requires
-put-two-requires c κs = room-front (1 ∷ (c .before .before .before .args .x + 2) ∷ []) (valueBytes (valueAt (c .before .before .before .args .file .now) (c .before .before .before .args .at))) (c .before .before .before .pre .1)
+put-two-requires c κs =
+    let entry = c .before .before .before in
+    room-front (1 ∷ (entry .args .x + 2) ∷ []) (valueBytes (valueAt (entry .args .file .now) (entry .args .at))) (entry .pre .1)
 
 shared-slice-read-put-four : tie.Need-shared-slice-read-put-four
 shared-slice-read-put-four c = search needs
@@ -40,13 +46,21 @@ shared-slice-read-put-four-4 : tie.Need-shared-slice-read-put-four-4
 shared-slice-read-put-four-4 c = search needs
 
 put-four-requires : tie.Need-put-four-requires
-put-four-requires c κs = room-as (value-bytes (c .before .before .before .before .before .before .before .before .before .before .before .args .file .now) (λ i. omega (arith, c .before .before .before .before .before .before .before .before .before .before .shared-slice-known .given i)) (c .before .before .before .before .before .before .before .before .before .before .before .args .at)) (room-back (1 ∷ (c .before .before .before .before .before .before .before .before .before .before .before .args .x + 2) ∷ []) (valueBytes (valueAt (c .before .before .before .before .before .before .before .before .before .before .before .args .file .now) (c .before .before .before .before .before .before .before .before .before .before .before .args .at))) (c .before .before .before .before .before .before .before .before .before .before .before .pre .1) (c .before .before .before .before .before .before .before .put-two .ensures))
+put-four-requires c κs =
+    let at-put-two = c .before .before .before .before .before .before .before in
+    let at-shared-slice-known = shared-slice-known-before-put-two at-put-two in
+    let entry = at-shared-slice-known .before in
+    room-as (value-bytes (entry .args .file .now) (λ i. omega (arith, at-shared-slice-known .shared-slice-known .given i)) (entry .args .at)) (room-back (1 ∷ (entry .args .x + 2) ∷ []) (valueBytes (valueAt (entry .args .file .now) (entry .args .at))) (entry .pre .1) (at-put-two .put-two .ensures))
 
 same-length : tie.Need-same-length
 same-length c = search needs
 
 returns : tie.Need-returns
-returns c = wrote-both (1 ∷ (c .before .before .before .before .before .before .before .before .before .before .before .before .before .before .args .x + 2) ∷ []) (valueBytes (valueAt (c .before .before .before .before .before .before .before .before .before .before .before .before .before .before .args .file .now) (c .before .before .before .before .before .before .before .before .before .before .before .before .before .before .args .at))) (c .before .before .before .before .before .before .before .before .before .before .before .before .before .before .pre .1) (c .before .before .before .before .before .before .before .before .before .before .put-two .ensures) (wrote-as (value-bytes (c .before .before .before .before .before .before .before .before .before .before .before .before .before .before .args .file .now) (λ i. omega (arith, c .before .before .before .before .before .before .before .before .before .before .before .before .before .shared-slice-known .given i)) (c .before .before .before .before .before .before .before .before .before .before .before .before .before .before .args .at)) (c .before .before .put-four .ensures))
+returns c =
+    let at-put-two = c .before .before .before .before .before .before .before .before .before .before in
+    let at-shared-slice-known = shared-slice-known-before-put-two at-put-two in
+    let entry = at-shared-slice-known .before in
+    wrote-both (1 ∷ (entry .args .x + 2) ∷ []) (valueBytes (valueAt (entry .args .file .now) (entry .args .at))) (entry .pre .1) (at-put-two .put-two .ensures) (wrote-as (value-bytes (entry .args .file .now) (λ i. omega (arith, at-shared-slice-known .shared-slice-known .given i)) (entry .args .at)) (c .before .before .put-four .ensures))
 
 pub put-constant-spec : {M : Type 1} → statement M
 put-constant-spec =

@@ -14,18 +14,26 @@ add-g c = search needs
 
 put-jump-head-requires : tie.Need-put-jump-head-requires
 unfolding labelJump
-put-jump-head-requires c κs = (omega arith, room-front (jumpHead (c .before .before .args .base + c .before .before .args .l) 0 1 (c .before .before .args .v)) (slotsFrom 2 (c .before .before .args .v)) (c .before .before .pre .1))
+put-jump-head-requires c κs =
+    let entry = c .before .before in
+    (omega arith, room-front (jumpHead (entry .args .base + entry .args .l) 0 1 (entry .args .v)) (slotsFrom 2 (entry .args .v)) (entry .pre .1))
 
 put-slots-requires : tie.Need-put-slots-requires
 unfolding labelJump
-put-slots-requires c κs = (omega (arith, c .before .before .before .before .before .before .pre .0 .1), room-back (jumpHead (c .before .before .before .before .before .before .args .base + c .before .before .before .before .before .before .args .l) 0 1 (c .before .before .before .before .before .before .args .v)) (slotsFrom 2 (c .before .before .before .before .before .before .args .v)) (c .before .before .before .before .before .before .pre .1) (c .before .before .before .put-jump-head .ensures))
+put-slots-requires c κs =
+    let at-put-jump-head = c .before .before .before in
+    let entry = at-put-jump-head .before .before .before in
+    (omega (arith, entry .pre .0 .1), room-back (jumpHead (entry .args .base + entry .args .l) 0 1 (entry .args .v)) (slotsFrom 2 (entry .args .v)) (entry .pre .1) (at-put-jump-head .put-jump-head .ensures))
 
 same-length : tie.Need-same-length
 same-length c = search needs
 
 returns : tie.Need-returns
 unfolding labelJump
-returns c = wrote-both (jumpHead (c .before .before .before .before .before .before .before .before .before .args .base + c .before .before .before .before .before .before .before .before .before .args .l) 0 1 (c .before .before .before .before .before .before .before .before .before .args .v)) (slotsFrom 2 (c .before .before .before .before .before .before .before .before .before .args .v)) (c .before .before .before .before .before .before .before .before .before .pre .1) (c .before .before .before .before .before .before .put-jump-head .ensures) (c .before .before .put-slots .ensures)
+returns c =
+    let at-put-jump-head = c .before .before .before .before .before .before in
+    let entry = at-put-jump-head .before .before .before in
+    wrote-both (jumpHead (entry .args .base + entry .args .l) 0 1 (entry .args .v)) (slotsFrom 2 (entry .args .v)) (entry .pre .1) (at-put-jump-head .put-jump-head .ensures) (c .before .before .put-slots .ensures)
 
 pub put-label-jump-spec : {M : Type 1} → statement M
 put-label-jump-spec =

@@ -6,6 +6,13 @@ use borrow.Author.Needs.{needs}
 use Rattle.translator.proofs.jumps.put_plain_call.Statement.{statement}
 use Rattle.translator.proofs.jumps.put_plain_call.Tie as tie
 
+-- Ways back to earlier places that several answers take.
+abbrev entry-before-jump-size : tie.After-jump-size → tie.Start
+entry-before-jump-size c = c .before .before .before
+
+abbrev put-three-before-put-pair : tie.After-put-pair → tie.After-put-three
+put-three-before-put-pair c = c .before .before .before .before
+
 add-k : tie.Need-add-k
 add-k c = search needs
 
@@ -16,19 +23,35 @@ jump-size-requires : tie.Need-jump-size-requires
 jump-size-requires c κs = search needs
 
 put-three-requires : tie.Need-put-three-requires
-put-three-requires c κs = plain-room (c .before .before .before .before .args .v) (c .before .before .before .before .args .x) (c .before .before .before .before .args .g) (c .before .before .before .before .args .n) (take (c .before .before .before .before .args .n) (drop (c .before .before .before .before .args .from) (c .before .before .before .before .args .file .now))) (c .before .jump-size .ensures) (c .before .before .before .before .pre .1)
+put-three-requires c κs =
+    let entry = c .before .before .before .before in
+    plain-room (entry .args .v) (entry .args .x) (entry .args .g) (entry .args .n) (take (entry .args .n) (drop (entry .args .from) (entry .args .file .now))) (c .before .jump-size .ensures) (entry .pre .1)
 
 put-pair-requires : tie.Need-put-pair-requires
-put-pair-requires c κs = (omega (arith, c .before .before .before .before .before .jump-size .ensures, c .before .before .before .before .before .before .before .before .pre .0 .2), plain-pair-room (c .before .before .before .before .before .before .before .before .args .v) (c .before .before .before .before .before .before .before .before .args .x) (c .before .before .before .before .before .before .before .before .args .g) (c .before .before .before .before .before .before .before .before .args .n) (take (c .before .before .before .before .before .before .before .before .args .n) (drop (c .before .before .before .before .before .before .before .before .args .from) (c .before .before .before .before .before .before .before .before .args .file .now))) (c .before .before .before .before .before .jump-size .ensures) (c .before .before .before .before .before .before .before .before .pre .1) (c .before .before .before .put-three .ensures))
+put-pair-requires c κs =
+    let at-put-three = c .before .before .before in
+    let at-jump-size = at-put-three .before .before in
+    let entry = entry-before-jump-size at-jump-size in
+    (omega (arith, at-jump-size .jump-size .ensures, entry .pre .0 .2), plain-pair-room (entry .args .v) (entry .args .x) (entry .args .g) (entry .args .n) (take (entry .args .n) (drop (entry .args .from) (entry .args .file .now))) (at-jump-size .jump-size .ensures) (entry .pre .1) (at-put-three .put-three .ensures))
 
 put-call-jump-requires : tie.Need-put-call-jump-requires
-put-call-jump-requires c κs = ((c .before .before .before .before .before .before .before .before .before .before .before .before .pre .0 .3, c .before .before .before .before .before .before .before .before .before .before .before .before .pre .0 .4), plain-jump-room (c .before .before .before .before .before .before .before .before .before .before .before .before .args .v) (c .before .before .before .before .before .before .before .before .before .before .before .before .args .x) (c .before .before .before .before .before .before .before .before .before .before .before .before .args .g) (c .before .before .before .before .before .before .before .before .before .before .before .before .args .n) (take (c .before .before .before .before .before .before .before .before .before .before .before .before .args .n) (drop (c .before .before .before .before .before .before .before .before .before .before .before .before .args .from) (c .before .before .before .before .before .before .before .before .before .before .before .before .args .file .now))) (c .before .before .before .before .before .before .before .before .before .jump-size .ensures) (c .before .before .before .before .before .before .before .before .before .before .before .before .pre .1) (c .before .before .before .before .before .before .before .put-three .ensures) (c .before .before .before .put-pair .ensures))
+put-call-jump-requires c κs =
+    let at-put-pair = c .before .before .before in
+    let at-put-three = put-three-before-put-pair at-put-pair in
+    let at-jump-size = at-put-three .before .before in
+    let entry = entry-before-jump-size at-jump-size in
+    ((entry .pre .0 .3, entry .pre .0 .4), plain-jump-room (entry .args .v) (entry .args .x) (entry .args .g) (entry .args .n) (take (entry .args .n) (drop (entry .args .from) (entry .args .file .now))) (at-jump-size .jump-size .ensures) (entry .pre .1) (at-put-three .put-three .ensures) (at-put-pair .put-pair .ensures))
 
 same-length : tie.Need-same-length
 same-length c = search needs
 
 returns : tie.Need-returns
-returns c = plain-wrote (c .before .before .before .before .before .before .before .before .before .before .before .before .before .before .before .args .v) (c .before .before .before .before .before .before .before .before .before .before .before .before .before .before .before .args .x) (c .before .before .before .before .before .before .before .before .before .before .before .before .before .before .before .args .g) (c .before .before .before .before .before .before .before .before .before .before .before .before .before .before .before .args .n) (take (c .before .before .before .before .before .before .before .before .before .before .before .before .before .before .before .args .n) (drop (c .before .before .before .before .before .before .before .before .before .before .before .before .before .before .before .args .from) (c .before .before .before .before .before .before .before .before .before .before .before .before .before .before .before .args .file .now))) (c .before .before .before .before .before .before .before .before .before .before .before .before .jump-size .ensures) (c .before .before .before .before .before .before .before .before .before .before .before .before .before .before .before .pre .1) (c .before .before .before .before .before .before .before .before .before .before .put-three .ensures) (c .before .before .before .before .before .before .put-pair .ensures) (c .before .before .put-call-jump .ensures)
+returns c =
+    let at-put-pair = c .before .before .before .before .before .before in
+    let at-put-three = put-three-before-put-pair at-put-pair in
+    let at-jump-size = at-put-three .before .before in
+    let entry = entry-before-jump-size at-jump-size in
+    plain-wrote (entry .args .v) (entry .args .x) (entry .args .g) (entry .args .n) (take (entry .args .n) (drop (entry .args .from) (entry .args .file .now))) (at-jump-size .jump-size .ensures) (entry .pre .1) (at-put-three .put-three .ensures) (at-put-pair .put-pair .ensures) (c .before .before .put-call-jump .ensures)
 
 pub put-plain-call-spec : {M : Type 1} → statement M
 put-plain-call-spec =

@@ -5,22 +5,32 @@ use Rattle.translator.proofs.jumps.put_raise.Statement.{statement}
 use Rattle.translator.proofs.jumps.put_raise.Tie as tie
 
 put-two-requires : tie.Need-put-two-requires
-put-two-requires c κs = room-as (uncaught-as (c .before .before .before .args .base) (c .before .before .before .args .v) (c .before .before .before .args .h) (c .before .if1 .taken)) (c .before .before .before .pre .1)
+put-two-requires c κs =
+    let entry = c .before .before .before in
+    room-as (uncaught-as (entry .args .base) (entry .args .v) (entry .args .h) (c .before .if1 .taken)) (entry .pre .1)
 
 put-label-jump-requires : tie.Need-put-label-jump-requires
-put-label-jump-requires c κs = (c .before .before .before .pre .0, room-as (caught-as (c .before .before .before .args .base) (c .before .before .before .args .v) (c .before .before .before .args .h) (c .before .if1 .left)) (c .before .before .before .pre .1))
+put-label-jump-requires c κs =
+    let entry = c .before .before .before in
+    (entry .pre .0, room-as (caught-as (entry .args .base) (entry .args .v) (entry .args .h) (c .before .if1 .left)) (entry .pre .1))
 
 same-length : tie.Need-same-length
 same-length c = search needs
 
 returns : tie.Need-returns
-returns c = wrote-as (uncaught-as (c .before .before .before .before .before .before .args .base) (c .before .before .before .before .before .before .args .v) (c .before .before .before .before .before .before .args .h) (c .before .before .before .before .if1 .taken)) (c .before .before .put-two .ensures)
+returns c =
+    let at-if1 = c .before .before .before .before in
+    let entry = at-if1 .before .before in
+    wrote-as (uncaught-as (entry .args .base) (entry .args .v) (entry .args .h) (at-if1 .if1 .taken)) (c .before .before .put-two .ensures)
 
 same-length-2 : tie.Need-same-length-2
 same-length-2 c = search needs
 
 returns-2 : tie.Need-returns-2
-returns-2 c = wrote-as (caught-as (c .before .before .before .before .before .before .args .base) (c .before .before .before .before .before .before .args .v) (c .before .before .before .before .before .before .args .h) (c .before .before .before .before .if1 .left)) (c .before .before .put-label-jump .ensures)
+returns-2 c =
+    let at-if1 = c .before .before .before .before in
+    let entry = at-if1 .before .before in
+    wrote-as (caught-as (entry .args .base) (entry .args .v) (entry .args .h) (at-if1 .if1 .left)) (c .before .before .put-label-jump .ensures)
 
 pub put-raise-spec : {M : Type 1} → statement M
 put-raise-spec =

@@ -13,20 +13,32 @@ Inv-loop blocks count numbers₀ n₀ f₀ numbers n f = Numbering blocks f n nu
 abbrev μ-loop : tie.MeasureT-loop
 μ-loop blocks count numbers₀ n₀ f₀ numbers n f = count - f
 
+-- Ways back to earlier places that several answers take.
+abbrev entry-before-in-loop : tie.In-loop Inv-loop μ-loop → tie.Start Inv-loop μ-loop
+entry-before-in-loop c = c .before .before .before
+
 loop-holds : tie.Need-loop-holds Inv-loop μ-loop
-loop-holds c = (numbering-none (c .before .args .blocks .now) (c .before .args .numbers .now) (c .before .pre .1), omega arith)
+loop-holds c =
+    let entry = c .before in
+    (numbering-none (entry .args .blocks .now) (entry .args .numbers .now) (entry .pre .1), omega arith)
 
 cast-numbers : tie.Need-cast-numbers Inv-loop μ-loop
-cast-numbers c = omega (arith, c .before .loop .inv .0 .few, c .loop-test .taken, c .before .before .before .pre .0)
+cast-numbers c =
+    let entry = entry-before-in-loop c in
+    omega (arith, c .before .loop .inv .0 .few, c .loop-test .taken, entry .pre .0)
 
 mul-numbers : tie.Need-mul-numbers Inv-loop μ-loop
 mul-numbers c = search needs
 
 slice-write-numbers : tie.Need-slice-write-numbers Inv-loop μ-loop
-slice-write-numbers c = omega (arith, c .before .loop .inv .0 .wide, c .loop-test .taken, c .before .before .before .pre .0)
+slice-write-numbers c =
+    let entry = entry-before-in-loop c in
+    omega (arith, c .before .loop .inv .0 .wide, c .loop-test .taken, entry .pre .0)
 
 element-copy-out-byte-number : tie.Need-element-copy-out-byte-number Inv-loop μ-loop
-element-copy-out-byte-number c = omega (arith, c .loop-test .taken, c .before .before .before .pre .0)
+element-copy-out-byte-number c =
+    let entry = entry-before-in-loop c in
+    omega (arith, c .loop-test .taken, entry .pre .0)
 
 byte-number-requires : tie.Need-byte-number-requires Inv-loop μ-loop
 byte-number-requires c κs = search needs
@@ -35,19 +47,31 @@ add-n : tie.Need-add-n Inv-loop μ-loop
 add-n c = omega (arith, c .byte-number .ensures .1)
 
 add-n-2 : tie.Need-add-n-2 Inv-loop μ-loop
-add-n-2 c = omega (arith, c .byte-number .ensures .1, c .before .before .before .loop .inv .0 .few, c .before .before .loop-test .taken, c .before .before .before .before .before .pre .0)
+add-n-2 c =
+    let at-before = c .before .before in
+    let at-loop = at-before .before in
+    let entry = at-loop .before .before in
+    omega (arith, c .byte-number .ensures .1, at-loop .loop .inv .0 .few, at-before .loop-test .taken, entry .pre .0)
 
 add-f : tie.Need-add-f Inv-loop μ-loop
-add-f c = omega (arith, c .before .before .loop-test .taken, c .before .before .before .before .before .pre .0)
+add-f c =
+    let entry = c .before .before .before .before .before in
+    omega (arith, c .before .before .loop-test .taken, entry .pre .0)
 
 loop-less : tie.Need-loop-less Inv-loop μ-loop
 loop-less c = omega (arith, c .before .before .loop-test .taken)
 
 loop-again : tie.Need-loop-again Inv-loop μ-loop
-loop-again c = (numbering-more (c .before .before .before .loop .inv .0) (omega (arith, c .before .before .loop-test .taken, c .before .before .before .before .before .pre .0)) (c .byte-number .ensures .0) (c .byte-number .ensures .1), omega (arith, c .before .before .loop-test .taken))
+loop-again c =
+    let at-loop-test = c .before .before in
+    let at-loop = at-loop-test .before in
+    let entry = at-loop .before .before in
+    (numbering-more (at-loop .loop .inv .0) (omega (arith, at-loop-test .loop-test .taken, entry .pre .0)) (c .byte-number .ensures .0) (c .byte-number .ensures .1), omega (arith, at-loop-test .loop-test .taken))
 
 same-length : tie.Need-same-length Inv-loop μ-loop
-same-length c = c .before .loop .inv .0 .wide ∙ sym (c .before .before .before .pre .1)
+same-length c =
+    let entry = c .before .before .before in
+    c .before .loop .inv .0 .wide ∙ sym (entry .pre .1)
 
 returns : tie.Need-returns Inv-loop μ-loop
 returns c = numbering-end (c .before .loop .inv .0) (omega (arith, c .before .loop .inv .1, c .loop-test .left))

@@ -16,32 +16,60 @@ Inv-loop file numbers starts handlers params locals blocks f out₀ o labels pla
 abbrev μ-loop : tie.MeasureT-loop
 μ-loop file numbers starts handlers params locals blocks f out₀ o labels place₀ l₀ out place l = labels + 1 - l
 
+-- Ways back to earlier places that several answers take.
+abbrev entry-before-byte-number : tie.After-byte-number Inv-loop μ-loop → tie.Start Inv-loop μ-loop
+entry-before-byte-number c = c .before .before .before .before
+
+abbrev in-loop-before-slice-known2 : tie.After-slice-known2 Inv-loop μ-loop → tie.In-loop Inv-loop μ-loop
+in-loop-before-slice-known2 c = c .before .before .before .before
+
 element-copy-out-byte-number : tie.Need-element-copy-out-byte-number Inv-loop μ-loop
-element-copy-out-byte-number c = omega (arith, few-functions (c .before .before .pre .0 .0), c .before .before .pre .1 .0)
+element-copy-out-byte-number c =
+    let entry = c .before .before in
+    omega (arith, few-functions (entry .pre .0 .0), entry .pre .1 .0)
 
 byte-number-requires : tie.Need-byte-number-requires Inv-loop μ-loop
 byte-number-requires c κs = search needs
 
 loop-holds : tie.Need-loop-holds Inv-loop μ-loop
-loop-holds c = (rest-from (c .before .before .before .before .pre .1 .1) (blocks-first (c .before .before .before .before .args .file .now) (c .before .before .before .before .args .f)), omega arith)
+loop-holds c =
+    let entry = entry-before-byte-number c in
+    (rest-from (entry .pre .1 .1) (blocks-first (entry .args .file .now) (entry .args .f)), omega arith)
 
 put-label-requires : tie.Need-put-label-requires Inv-loop μ-loop
-put-label-requires c κs = let b = label-inside (c .before .before .before .before .before .before .before .pre .0 .0) (c .before .before .before .before .before .before .before .args .f) (c .before .before .before .before .before .before .before .pre .1 .0) (c .before .before .before .byte-number .ensures .0) (c .before .loop-test .taken) in (c .before .before .before .before .before .before .before .pre .0, ((c .before .before .before .before .before .before .before .pre .1 .0, b), room-front (labelBytes (c .before .before .before .before .before .before .before .args .file .now) (c .before .before .before .before .before .before .before .args .f) (c .before .before .loop .l)) (blocksFrom (c .before .before .before .before .before .before .before .args .file .now) (c .before .before .before .before .before .before .before .args .f) (c .before .before .loop .l + 1)) (rest-as (c .before .before .loop .inv .0) _ (blocks-more (c .before .before .before .before .before .before .before .args .file .now) (c .before .before .before .before .before .before .before .args .f) (c .before .before .loop .l) b))))
+put-label-requires c κs =
+    let at-loop = c .before .before in
+    let at-byte-number = at-loop .before in
+    let entry = entry-before-byte-number at-byte-number in
+    let b = label-inside (entry .pre .0 .0) (entry .args .f) (entry .pre .1 .0) (at-byte-number .byte-number .ensures .0) (c .before .loop-test .taken) in (entry .pre .0, ((entry .pre .1 .0, b), room-front (labelBytes (entry .args .file .now) (entry .args .f) (at-loop .loop .l)) (blocksFrom (entry .args .file .now) (entry .args .f) (at-loop .loop .l + 1)) (rest-as (at-loop .loop .inv .0) _ (blocks-more (entry .args .file .now) (entry .args .f) (at-loop .loop .l) b))))
 
 add-l : tie.Need-add-l Inv-loop μ-loop
-add-l c = omega (arith, c .before .before .before .before .loop-test .taken, c .before .before .before .before .before .before .byte-number .ensures .1)
+add-l c =
+    let at-loop-test = in-loop-before-slice-known2 c in
+    let at-byte-number = at-loop-test .before .before in
+    omega (arith, at-loop-test .loop-test .taken, at-byte-number .byte-number .ensures .1)
 
 loop-less : tie.Need-loop-less Inv-loop μ-loop
-loop-less c = omega (arith, c .before .before .before .before .loop-test .taken)
+loop-less c =
+    let at-loop-test = in-loop-before-slice-known2 c in
+    omega (arith, at-loop-test .loop-test .taken)
 
 loop-again : tie.Need-loop-again Inv-loop μ-loop
-loop-again c = let b = label-inside (c .before .before .before .before .before .before .before .before .before .before .pre .0 .0) (c .before .before .before .before .before .before .before .before .before .before .args .f) (c .before .before .before .before .before .before .before .before .before .before .pre .1 .0) (c .before .before .before .before .before .before .byte-number .ensures .0) (c .before .before .before .before .loop-test .taken) in (rest-more (c .before .before .before .before .before .loop .inv .0) (labelBytes (c .before .before .before .before .before .before .before .before .before .before .args .file .now) (c .before .before .before .before .before .before .before .before .before .before .args .f) (c .before .before .before .before .before .loop .l)) (blocksFrom (c .before .before .before .before .before .before .before .before .before .before .args .file .now) (c .before .before .before .before .before .before .before .before .before .before .args .f) (c .before .before .before .before .before .loop .l + 1)) (blocks-more (c .before .before .before .before .before .before .before .before .before .before .args .file .now) (c .before .before .before .before .before .before .before .before .before .before .args .f) (c .before .before .before .before .before .loop .l) b) (c .before .before .put-label .ensures), omega (arith, c .before .before .before .before .loop-test .taken))
+loop-again c =
+    let at-loop-test = in-loop-before-slice-known2 c in
+    let at-loop = at-loop-test .before in
+    let at-byte-number = at-loop .before in
+    let entry = entry-before-byte-number at-byte-number in
+    let b = label-inside (entry .pre .0 .0) (entry .args .f) (entry .pre .1 .0) (at-byte-number .byte-number .ensures .0) (at-loop-test .loop-test .taken) in (rest-more (at-loop .loop .inv .0) (labelBytes (entry .args .file .now) (entry .args .f) (at-loop .loop .l)) (blocksFrom (entry .args .file .now) (entry .args .f) (at-loop .loop .l + 1)) (blocks-more (entry .args .file .now) (entry .args .f) (at-loop .loop .l) b) (c .before .before .put-label .ensures), omega (arith, at-loop-test .loop-test .taken))
 
 same-length : tie.Need-same-length Inv-loop μ-loop
 same-length c = c .before .loop .inv .0 .long
 
 returns : tie.Need-returns Inv-loop μ-loop
-returns c = rest-done (c .before .loop .inv .0) (blocks-none (c .before .before .before .before .before .before .args .file .now) (c .before .before .before .before .before .before .args .f) (c .before .loop .l) (label-outside (c .before .before .before .before .before .before .pre .0 .0) (c .before .before .before .before .before .before .args .f) (c .before .before .before .before .before .before .pre .1 .0) (c .before .before .byte-number .ensures .0) (omega (arith, c .loop-test .left))))
+returns c =
+    let at-loop = c .before in
+    let entry = at-loop .before .before .before .before .before in
+    rest-done (at-loop .loop .inv .0) (blocks-none (entry .args .file .now) (entry .args .f) (at-loop .loop .l) (label-outside (entry .pre .0 .0) (entry .args .f) (entry .pre .1 .0) (c .before .before .byte-number .ensures .0) (omega (arith, c .loop-test .left))))
 
 pub put-function-spec : {M : Type 1} → statement M
 put-function-spec =

@@ -15,26 +15,51 @@ Inv-loop file numbers starts handlers params locals blocks count out₀ o place�
 abbrev μ-loop : tie.MeasureT-loop
 μ-loop file numbers starts handlers params locals blocks count out₀ o place₀ f₀ out place f = count - f
 
+-- Ways back to earlier places that several answers take.
+abbrev entry-before-at-loop : tie.At-loop Inv-loop μ-loop → tie.Start Inv-loop μ-loop
+entry-before-at-loop c = c .before .before .before
+
+abbrev in-loop-before-slice-known2 : tie.After-slice-known2 Inv-loop μ-loop → tie.In-loop Inv-loop μ-loop
+in-loop-before-slice-known2 c = c .before .before .before .before
+
 loop-holds : tie.Need-loop-holds Inv-loop μ-loop
-loop-holds c = (rest-from (c .before .before .pre .1) (functions-first (c .before .before .args .file .now)), omega arith)
+loop-holds c =
+    let entry = c .before .before in
+    (rest-from (entry .pre .1) (functions-first (entry .args .file .now)), omega arith)
 
 put-function-requires : tie.Need-put-function-requires Inv-loop μ-loop
-put-function-requires c κs = ((c .before .before .before .before .before .pre .0 .0, c .before .before .before .before .before .pre .0 .1), (omega (arith, c .before .loop-test .taken, c .before .before .before .before .before .pre .0 .2), room-front (functionBytes (c .before .before .before .before .before .args .file .now) (c .before .before .loop .f)) (functionsFrom (c .before .before .before .before .before .args .file .now) (c .before .before .loop .f + 1)) (rest-as (c .before .before .loop .inv .0) _ (functions-more (c .before .before .before .before .before .args .file .now) (c .before .before .loop .f) (omega (arith, c .before .loop-test .taken, c .before .before .before .before .before .pre .0 .2))))))
+put-function-requires c κs =
+    let at-loop-test = c .before in
+    let at-loop = at-loop-test .before in
+    let entry = entry-before-at-loop at-loop in
+    ((entry .pre .0 .0, entry .pre .0 .1), (omega (arith, at-loop-test .loop-test .taken, entry .pre .0 .2), room-front (functionBytes (entry .args .file .now) (at-loop .loop .f)) (functionsFrom (entry .args .file .now) (at-loop .loop .f + 1)) (rest-as (at-loop .loop .inv .0) _ (functions-more (entry .args .file .now) (at-loop .loop .f) (omega (arith, at-loop-test .loop-test .taken, entry .pre .0 .2))))))
 
 add-f : tie.Need-add-f Inv-loop μ-loop
-add-f c = omega (arith, c .before .before .before .before .loop-test .taken, c .before .before .before .before .before .before .before .before .pre .0 .2, few-functions (c .before .before .before .before .before .before .before .before .pre .0 .0))
+add-f c =
+    let at-loop-test = in-loop-before-slice-known2 c in
+    let entry = at-loop-test .before .before .before .before in
+    omega (arith, at-loop-test .loop-test .taken, entry .pre .0 .2, few-functions (entry .pre .0 .0))
 
 loop-less : tie.Need-loop-less Inv-loop μ-loop
-loop-less c = omega (arith, c .before .before .before .before .loop-test .taken)
+loop-less c =
+    let at-loop-test = in-loop-before-slice-known2 c in
+    omega (arith, at-loop-test .loop-test .taken)
 
 loop-again : tie.Need-loop-again Inv-loop μ-loop
-loop-again c = (rest-more (c .before .before .before .before .before .loop .inv .0) (functionBytes (c .before .before .before .before .before .before .before .before .args .file .now) (c .before .before .before .before .before .loop .f)) (functionsFrom (c .before .before .before .before .before .before .before .before .args .file .now) (c .before .before .before .before .before .loop .f + 1)) (functions-more (c .before .before .before .before .before .before .before .before .args .file .now) (c .before .before .before .before .before .loop .f) (omega (arith, c .before .before .before .before .loop-test .taken, c .before .before .before .before .before .before .before .before .pre .0 .2))) (c .before .before .put-function .ensures), omega (arith, c .before .before .before .before .loop-test .taken))
+loop-again c =
+    let at-loop-test = in-loop-before-slice-known2 c in
+    let at-loop = at-loop-test .before in
+    let entry = entry-before-at-loop at-loop in
+    (rest-more (at-loop .loop .inv .0) (functionBytes (entry .args .file .now) (at-loop .loop .f)) (functionsFrom (entry .args .file .now) (at-loop .loop .f + 1)) (functions-more (entry .args .file .now) (at-loop .loop .f) (omega (arith, at-loop-test .loop-test .taken, entry .pre .0 .2))) (c .before .before .put-function .ensures), omega (arith, at-loop-test .loop-test .taken))
 
 same-length : tie.Need-same-length Inv-loop μ-loop
 same-length c = c .before .loop .inv .0 .long
 
 returns : tie.Need-returns Inv-loop μ-loop
-returns c = rest-done (c .before .loop .inv .0) (functions-none (c .before .before .before .before .args .file .now) (c .before .loop .f) (omega (arith, c .loop-test .left, c .before .before .before .before .pre .0 .2)))
+returns c =
+    let at-loop = c .before in
+    let entry = entry-before-at-loop at-loop in
+    rest-done (at-loop .loop .inv .0) (functions-none (entry .args .file .now) (at-loop .loop .f) (omega (arith, c .loop-test .left, entry .pre .0 .2)))
 
 pub put-functions-spec : {M : Type 1} → statement M
 put-functions-spec =

@@ -8,29 +8,53 @@ use borrow.Author.Needs.{needs}
 use Rattle.translator.proofs.parts.put_label.Statement.{statement}
 use Rattle.translator.proofs.parts.put_label.Tie as tie
 
+-- Ways back to earlier places that several answers take.
+abbrev entry-before-offset-number : tie.After-offset-number → tie.Start
+entry-before-offset-number c = c .before .before .before .before
+
+abbrev offset-number-before-by-label : tie.After-by-label → tie.After-offset-number
+offset-number-before-by-label c = c .before .before .before
+
+abbrev entry-before-by-label2 : tie.After-by-label2 → tie.Start
+entry-before-by-label2 c = c .before .before .before .before .before .before .before .before
+
 mul-slot : tie.Need-mul-slot
-mul-slot c = omega (arith, slot-low (c .before .before .pre .0 .0) (c .before .before .args .f) (c .before .before .pre .1 .0 .0) (c .before .before .args .l) (c .before .before .pre .1 .0 .1))
+mul-slot c =
+    let entry = c .before .before in
+    omega (arith, slot-low (entry .pre .0 .0) (entry .args .f) (entry .pre .1 .0 .0) (entry .args .l) (entry .pre .1 .0 .1))
 
 add-slot : tie.Need-add-slot
-add-slot c = omega (arith, slot-low (c .before .before .pre .0 .0) (c .before .before .args .f) (c .before .before .pre .1 .0 .0) (c .before .before .args .l) (c .before .before .pre .1 .0 .1))
+add-slot c =
+    let entry = c .before .before in
+    omega (arith, slot-low (entry .pre .0 .0) (entry .args .f) (entry .pre .1 .0 .0) (entry .args .l) (entry .pre .1 .0 .1))
 
 mul-offset-number : tie.Need-mul-offset-number
-mul-offset-number c = omega (arith, few-functions (c .before .before .pre .0 .0), c .before .before .pre .1 .0 .0)
+mul-offset-number c =
+    let entry = c .before .before in
+    omega (arith, few-functions (entry .pre .0 .0), entry .pre .1 .0 .0)
 
 element-copy-out-offset-number : tie.Need-element-copy-out-offset-number
-element-copy-out-offset-number c = omega (arith, few-functions (c .before .before .pre .0 .0), c .before .before .pre .1 .0 .0)
+element-copy-out-offset-number c =
+    let entry = c .before .before in
+    omega (arith, few-functions (entry .pre .0 .0), entry .pre .1 .0 .0)
 
 offset-number-requires : tie.Need-offset-number-requires
 offset-number-requires c κs = search needs
 
 element-copy-out-own : tie.Need-element-copy-out-own
-element-copy-out-own c = omega (arith, few-functions (c .before .before .before .before .pre .0 .0), c .before .before .before .before .pre .1 .0 .0)
+element-copy-out-own c =
+    let entry = entry-before-offset-number c in
+    omega (arith, few-functions (entry .pre .0 .0), entry .pre .1 .0 .0)
 
 element-copy-out-others : tie.Need-element-copy-out-others
-element-copy-out-others c = omega (arith, few-functions (c .before .before .before .before .before .pre .0 .0), c .before .before .before .before .before .pre .1 .0 .0)
+element-copy-out-others c =
+    let entry = c .before .before .before .before .before in
+    omega (arith, few-functions (entry .pre .0 .0), entry .pre .1 .0 .0)
 
 add-v : tie.Need-add-v
-add-v c = omega (arith, own-low (c .before .before .before .before .before .before .pre .0 .0) (c .before .before .before .before .before .before .args .f) (c .before .before .before .before .before .before .pre .1 .0 .0) (c .before .before .before .before .before .before .args .l) (c .before .before .before .before .before .before .pre .1 .0 .1) refl refl refl, others-low (c .before .before .before .before .before .before .pre .0 .0) (c .before .before .before .before .before .before .args .f) (c .before .before .before .before .before .before .pre .1 .0 .0) (c .before .before .before .before .before .before .args .l) (c .before .before .before .before .before .before .pre .1 .0 .1) refl refl refl)
+add-v c =
+    let entry = c .before .before .before .before .before .before in
+    omega (arith, own-low (entry .pre .0 .0) (entry .args .f) (entry .pre .1 .0 .0) (entry .args .l) (entry .pre .1 .0 .1) refl refl refl, others-low (entry .pre .0 .0) (entry .args .f) (entry .pre .1 .0 .0) (entry .args .l) (entry .pre .1 .0 .1) refl refl refl)
 
 by-label-requires : tie.Need-by-label-requires
 by-label-requires c κs = search needs
@@ -39,25 +63,43 @@ by-label-requires-2 : tie.Need-by-label-requires-2
 by-label-requires-2 c κs = search needs
 
 mul-offset-number-2 : tie.Need-mul-offset-number-2
-mul-offset-number-2 c = omega (arith, slot-low (c .before .before .before .before .before .before .before .before .pre .0 .0) (c .before .before .before .before .before .before .before .before .args .f) (c .before .before .before .before .before .before .before .before .pre .1 .0 .0) (c .before .before .before .before .before .before .before .before .args .l) (c .before .before .before .before .before .before .before .before .pre .1 .0 .1))
+mul-offset-number-2 c =
+    let entry = entry-before-by-label2 c in
+    omega (arith, slot-low (entry .pre .0 .0) (entry .args .f) (entry .pre .1 .0 .0) (entry .args .l) (entry .pre .1 .0 .1))
 
 element-copy-out-offset-number-2 : tie.Need-element-copy-out-offset-number-2
-element-copy-out-offset-number-2 c = slot-low (c .before .before .before .before .before .before .before .before .pre .0 .0) (c .before .before .before .before .before .before .before .before .args .f) (c .before .before .before .before .before .before .before .before .pre .1 .0 .0) (c .before .before .before .before .before .before .before .before .args .l) (c .before .before .before .before .before .before .before .before .pre .1 .0 .1)
+element-copy-out-offset-number-2 c =
+    let entry = entry-before-by-label2 c in
+    slot-low (entry .pre .0 .0) (entry .args .f) (entry .pre .1 .0 .0) (entry .args .l) (entry .pre .1 .0 .1)
 
 offset-number-requires-2 : tie.Need-offset-number-requires-2
 offset-number-requires-2 c κs = search needs
 
 element-copy-out-h : tie.Need-element-copy-out-h
-element-copy-out-h c = slot-low (c .before .before .before .before .before .before .before .before .before .before .pre .0 .0) (c .before .before .before .before .before .before .before .before .before .before .args .f) (c .before .before .before .before .before .before .before .before .before .before .pre .1 .0 .0) (c .before .before .before .before .before .before .before .before .before .before .args .l) (c .before .before .before .before .before .before .before .before .before .before .pre .1 .0 .1)
+element-copy-out-h c =
+    let entry = c .before .before .before .before .before .before .before .before .before .before in
+    slot-low (entry .pre .0 .0) (entry .args .f) (entry .pre .1 .0 .0) (entry .args .l) (entry .pre .1 .0 .1)
 
 put-part-requires : tie.Need-put-part-requires
-put-part-requires c κs = let w = counts-low (c .before .before .before .before .before .before .before .before .before .before .before .before .pre .0 .0) (c .before .before .before .before .before .before .before .before .before .before .before .before .args .f) (c .before .before .before .before .before .before .before .before .before .before .before .before .pre .1 .0 .0) (c .before .before .before .before .before .before .before .before .before .before .before .before .args .l) (c .before .before .before .before .before .before .before .before .before .before .before .before .pre .1 .0 .1) refl refl refl (c .before .before .before .before .before .by-label .ensures) (c .before .before .before .before .by-label2 .ensures) in ((label-placed (c .before .before .before .before .before .before .before .before .before .before .before .before .pre .0 .0) (c .before .before .before .before .before .before .before .before .before .before .before .before .args .f) (c .before .before .before .before .before .before .before .before .before .before .before .before .pre .1 .0 .0) (c .before .before .before .before .before .before .before .before .before .before .before .before .args .l) (c .before .before .before .before .before .before .before .before .before .before .before .before .pre .1 .0 .1) refl refl refl (c .before .before .offset-number2 .ensures .0) (c .before .before .before .before .before .before .before .before .before .before .before .before .args .numbers .now) (c .before .before .before .before .before .before .before .before .before .before .before .before .pre .0 .1) (c .before .before .before .before .before .before .before .before .offset-number .ensures .0), w .0, w .1), room-as (label-part (c .before .before .before .before .before .before .before .before .before .before .before .before .pre .0 .0) (c .before .before .before .before .before .before .before .before .before .before .before .before .args .f) (c .before .before .before .before .before .before .before .before .before .before .before .before .pre .1 .0 .0) (c .before .before .before .before .before .before .before .before .before .before .before .before .args .l) (c .before .before .before .before .before .before .before .before .before .before .before .before .pre .1 .0 .1) refl refl refl (c .before .before .offset-number2 .ensures .0) (c .before .before .before .before .before .before .before .before .before .before .before .before .args .numbers .now) (c .before .before .before .before .before .before .before .before .before .before .before .before .pre .0 .1) (c .before .before .before .before .before .before .before .before .offset-number .ensures .0) (c .before .before .before .before .before .by-label .ensures) (c .before .before .before .before .by-label2 .ensures)) (c .before .before .before .before .before .before .before .before .before .before .before .before .pre .1 .1))
+put-part-requires c κs =
+    let at-offset-number2 = c .before .before in
+    let at-by-label2 = at-offset-number2 .before .before in
+    let at-by-label = at-by-label2 .before in
+    let at-offset-number = offset-number-before-by-label at-by-label in
+    let entry = entry-before-offset-number at-offset-number in
+    let w = counts-low (entry .pre .0 .0) (entry .args .f) (entry .pre .1 .0 .0) (entry .args .l) (entry .pre .1 .0 .1) refl refl refl (at-by-label .by-label .ensures) (at-by-label2 .by-label2 .ensures) in ((label-placed (entry .pre .0 .0) (entry .args .f) (entry .pre .1 .0 .0) (entry .args .l) (entry .pre .1 .0 .1) refl refl refl (at-offset-number2 .offset-number2 .ensures .0) (entry .args .numbers .now) (entry .pre .0 .1) (at-offset-number .offset-number .ensures .0), w .0, w .1), room-as (label-part (entry .pre .0 .0) (entry .args .f) (entry .pre .1 .0 .0) (entry .args .l) (entry .pre .1 .0 .1) refl refl refl (at-offset-number2 .offset-number2 .ensures .0) (entry .args .numbers .now) (entry .pre .0 .1) (at-offset-number .offset-number .ensures .0) (at-by-label .by-label .ensures) (at-by-label2 .by-label2 .ensures)) (entry .pre .1 .1))
 
 same-length : tie.Need-same-length
 same-length c = search needs
 
 returns : tie.Need-returns
-returns c = wrote-as (label-part (c .before .before .before .before .before .before .before .before .before .before .before .before .before .before .before .pre .0 .0) (c .before .before .before .before .before .before .before .before .before .before .before .before .before .before .before .args .f) (c .before .before .before .before .before .before .before .before .before .before .before .before .before .before .before .pre .1 .0 .0) (c .before .before .before .before .before .before .before .before .before .before .before .before .before .before .before .args .l) (c .before .before .before .before .before .before .before .before .before .before .before .before .before .before .before .pre .1 .0 .1) refl refl refl (c .before .before .before .before .before .offset-number2 .ensures .0) (c .before .before .before .before .before .before .before .before .before .before .before .before .before .before .before .args .numbers .now) (c .before .before .before .before .before .before .before .before .before .before .before .before .before .before .before .pre .0 .1) (c .before .before .before .before .before .before .before .before .before .before .before .offset-number .ensures .0) (c .before .before .before .before .before .before .before .before .by-label .ensures) (c .before .before .before .before .before .before .before .by-label2 .ensures)) (c .before .before .put-part .ensures)
+returns c =
+    let at-offset-number2 = c .before .before .before .before .before in
+    let at-by-label2 = at-offset-number2 .before .before in
+    let at-by-label = at-by-label2 .before in
+    let at-offset-number = offset-number-before-by-label at-by-label in
+    let entry = entry-before-offset-number at-offset-number in
+    wrote-as (label-part (entry .pre .0 .0) (entry .args .f) (entry .pre .1 .0 .0) (entry .args .l) (entry .pre .1 .0 .1) refl refl refl (at-offset-number2 .offset-number2 .ensures .0) (entry .args .numbers .now) (entry .pre .0 .1) (at-offset-number .offset-number .ensures .0) (at-by-label .by-label .ensures) (at-by-label2 .by-label2 .ensures)) (c .before .before .put-part .ensures)
 
 pub put-label-spec : {M : Type 1} → statement M
 put-label-spec =

@@ -5,6 +5,16 @@ use borrow.Author.Needs.{needs}
 use Rattle.translator.proofs.parts.put_part.Statement.{statement}
 use Rattle.translator.proofs.parts.put_part.Tie as tie
 
+-- Ways back to earlier places that several answers take.
+abbrev entry-before-block-size : tie.After-block-size → tie.Start
+entry-before-block-size c = c .before .before .before
+
+abbrev put-one-before-put-pair : tie.After-put-pair → tie.After-put-one
+put-one-before-put-pair c = c .before .before .before .before
+
+abbrev put-pair-before-put-zeros : tie.After-put-zeros → tie.After-put-pair
+put-pair-before-put-zeros c = c .before .before .before .before
+
 add-first : tie.Need-add-first
 add-first c = search needs
 
@@ -18,22 +28,45 @@ add-size : tie.Need-add-size
 add-size c = search needs
 
 put-one-requires : tie.Need-put-one-requires
-put-one-requires c κs = part-room (c .before .before .before .before .args .file .now) (c .before .before .before .before .args .base) (c .before .before .before .before .args .p) (c .before .before .before .before .args .n) (c .before .before .before .before .args .v) (c .before .before .before .before .args .h) (c .before .before .before .before .args .at) (c .before .block-size .ensures) (c .before .before .before .before .pre .1)
+put-one-requires c κs =
+    let entry = c .before .before .before .before in
+    part-room (entry .args .file .now) (entry .args .base) (entry .args .p) (entry .args .n) (entry .args .v) (entry .args .h) (entry .args .at) (c .before .block-size .ensures) (entry .pre .1)
 
 put-pair-requires : tie.Need-put-pair-requires
-put-pair-requires c κs = (part-small (c .before .before .before .before .before .before .before .before .args .file .now) (c .before .before .before .before .before .before .before .before .args .base) (c .before .before .before .before .before .before .before .before .args .p) (c .before .before .before .before .before .before .before .before .args .n) (c .before .before .before .before .before .before .before .before .args .v) (c .before .before .before .before .before .before .before .before .args .h) (c .before .before .before .before .before .before .before .before .args .at) (c .before .before .before .before .before .block-size .ensures) (c .before .before .before .before .before .before .before .before .pre .1), part-pair-room (c .before .before .before .before .before .before .before .before .args .file .now) (c .before .before .before .before .before .before .before .before .args .base) (c .before .before .before .before .before .before .before .before .args .p) (c .before .before .before .before .before .before .before .before .args .n) (c .before .before .before .before .before .before .before .before .args .v) (c .before .before .before .before .before .before .before .before .args .h) (c .before .before .before .before .before .before .before .before .args .at) (c .before .before .before .before .before .block-size .ensures) (c .before .before .before .before .before .before .before .before .pre .1) (c .before .before .before .put-one .ensures))
+put-pair-requires c κs =
+    let at-put-one = c .before .before .before in
+    let at-block-size = at-put-one .before .before in
+    let entry = entry-before-block-size at-block-size in
+    (part-small (entry .args .file .now) (entry .args .base) (entry .args .p) (entry .args .n) (entry .args .v) (entry .args .h) (entry .args .at) (at-block-size .block-size .ensures) (entry .pre .1), part-pair-room (entry .args .file .now) (entry .args .base) (entry .args .p) (entry .args .n) (entry .args .v) (entry .args .h) (entry .args .at) (at-block-size .block-size .ensures) (entry .pre .1) (at-put-one .put-one .ensures))
 
 put-zeros-requires : tie.Need-put-zeros-requires
-put-zeros-requires c κs = (omega (arith, c .before .before .before .before .before .before .before .before .before .before .before .before .pre .0 .1, c .before .before .before .before .before .before .before .before .before .before .before .before .pre .0 .2), part-zeros-room (c .before .before .before .before .before .before .before .before .before .before .before .before .args .file .now) (c .before .before .before .before .before .before .before .before .before .before .before .before .args .base) (c .before .before .before .before .before .before .before .before .before .before .before .before .args .p) (c .before .before .before .before .before .before .before .before .before .before .before .before .args .n) (c .before .before .before .before .before .before .before .before .before .before .before .before .args .v) (c .before .before .before .before .before .before .before .before .before .before .before .before .args .h) (c .before .before .before .before .before .before .before .before .before .before .before .before .args .at) (c .before .before .before .before .before .before .before .before .before .block-size .ensures) (c .before .before .before .before .before .before .before .before .before .before .before .before .pre .1) (c .before .before .before .before .before .before .before .put-one .ensures) (c .before .before .before .put-pair .ensures))
+put-zeros-requires c κs =
+    let at-put-pair = c .before .before .before in
+    let at-put-one = put-one-before-put-pair at-put-pair in
+    let at-block-size = at-put-one .before .before in
+    let entry = entry-before-block-size at-block-size in
+    (omega (arith, entry .pre .0 .1, entry .pre .0 .2), part-zeros-room (entry .args .file .now) (entry .args .base) (entry .args .p) (entry .args .n) (entry .args .v) (entry .args .h) (entry .args .at) (at-block-size .block-size .ensures) (entry .pre .1) (at-put-one .put-one .ensures) (at-put-pair .put-pair .ensures))
 
 put-block-requires : tie.Need-put-block-requires
-put-block-requires c κs = (c .before .before .before .before .before .before .before .before .before .before .before .before .before .before .before .before .pre .0 .0, part-block-room (c .before .before .before .before .before .before .before .before .before .before .before .before .before .before .before .before .args .file .now) (c .before .before .before .before .before .before .before .before .before .before .before .before .before .before .before .before .args .base) (c .before .before .before .before .before .before .before .before .before .before .before .before .before .before .before .before .args .p) (c .before .before .before .before .before .before .before .before .before .before .before .before .before .before .before .before .args .n) (c .before .before .before .before .before .before .before .before .before .before .before .before .before .before .before .before .args .v) (c .before .before .before .before .before .before .before .before .before .before .before .before .before .before .before .before .args .h) (c .before .before .before .before .before .before .before .before .before .before .before .before .before .before .before .before .args .at) (c .before .before .before .before .before .before .before .before .before .before .before .before .before .block-size .ensures) (c .before .before .before .before .before .before .before .before .before .before .before .before .before .before .before .before .pre .1) (c .before .before .before .before .before .before .before .before .before .before .before .put-one .ensures) (c .before .before .before .before .before .before .before .put-pair .ensures) (c .before .before .before .put-zeros .ensures))
+put-block-requires c κs =
+    let at-put-zeros = c .before .before .before in
+    let at-put-pair = put-pair-before-put-zeros at-put-zeros in
+    let at-put-one = put-one-before-put-pair at-put-pair in
+    let at-block-size = at-put-one .before .before in
+    let entry = entry-before-block-size at-block-size in
+    (entry .pre .0 .0, part-block-room (entry .args .file .now) (entry .args .base) (entry .args .p) (entry .args .n) (entry .args .v) (entry .args .h) (entry .args .at) (at-block-size .block-size .ensures) (entry .pre .1) (at-put-one .put-one .ensures) (at-put-pair .put-pair .ensures) (at-put-zeros .put-zeros .ensures))
 
 same-length : tie.Need-same-length
 same-length c = search needs
 
 returns : tie.Need-returns
-returns c = part-wrote (c .before .before .before .before .before .before .before .before .before .before .before .before .before .before .before .before .before .before .before .args .file .now) (c .before .before .before .before .before .before .before .before .before .before .before .before .before .before .before .before .before .before .before .args .base) (c .before .before .before .before .before .before .before .before .before .before .before .before .before .before .before .before .before .before .before .args .p) (c .before .before .before .before .before .before .before .before .before .before .before .before .before .before .before .before .before .before .before .args .n) (c .before .before .before .before .before .before .before .before .before .before .before .before .before .before .before .before .before .before .before .args .v) (c .before .before .before .before .before .before .before .before .before .before .before .before .before .before .before .before .before .before .before .args .h) (c .before .before .before .before .before .before .before .before .before .before .before .before .before .before .before .before .before .before .before .args .at) (c .before .before .before .before .before .before .before .before .before .before .before .before .before .before .before .before .block-size .ensures) (c .before .before .before .before .before .before .before .before .before .before .before .before .before .before .before .before .before .before .before .pre .1) (c .before .before .before .before .before .before .before .before .before .before .before .before .before .before .put-one .ensures) (c .before .before .before .before .before .before .before .before .before .before .put-pair .ensures) (c .before .before .before .before .before .before .put-zeros .ensures) (c .before .before .put-block .ensures)
+returns c =
+    let at-put-zeros = c .before .before .before .before .before .before in
+    let at-put-pair = put-pair-before-put-zeros at-put-zeros in
+    let at-put-one = put-one-before-put-pair at-put-pair in
+    let at-block-size = at-put-one .before .before in
+    let entry = entry-before-block-size at-block-size in
+    part-wrote (entry .args .file .now) (entry .args .base) (entry .args .p) (entry .args .n) (entry .args .v) (entry .args .h) (entry .args .at) (at-block-size .block-size .ensures) (entry .pre .1) (at-put-one .put-one .ensures) (at-put-pair .put-pair .ensures) (at-put-zeros .put-zeros .ensures) (c .before .before .put-block .ensures)
 
 pub put-part-spec : {M : Type 1} → statement M
 put-part-spec =

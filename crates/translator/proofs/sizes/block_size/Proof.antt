@@ -15,6 +15,10 @@ Inv-loop file v h start at₀ n₀ at n = Counting file v h start at n
 abbrev μ-loop : tie.MeasureT-loop
 μ-loop file v h start at₀ n₀ at n = length file - at
 
+-- Ways back to earlier places that several answers take.
+abbrev after-of-before-known-told : tie.After-known-told Inv-loop μ-loop → tie.After-after-of Inv-loop μ-loop
+after-of-before-known-told c = c .before .before .before
+
 loop-holds : tie.Need-loop-holds Inv-loop μ-loop
 loop-holds c = count-none (c .before .pre)
 
@@ -34,22 +38,42 @@ enum-known-next : tie.Need-enum-known-next Inv-loop μ-loop
 enum-known-next c = search needs
 
 loop-less : tie.Need-loop-less Inv-loop μ-loop
-loop-less c = let m = count-moves (c .before .before .before .before .before .before .loop .inv) (c .before .before .before .before .before .operation-at .ensures) (c .before .before .before .before .operation-size .ensures .0) (c .before .before .before .before .operation-size .ensures .1) (c .before .before .before .after-of .ensures) (c .before .next .given .1) in omega (arith, m .0, m .1)
+loop-less c =
+    let at-after-of = after-of-before-known-told c in
+    let at-operation-size = at-after-of .before in
+    let at-operation-at = at-operation-size .before in
+    let at-loop = at-operation-at .before in
+    let m = count-moves (at-loop .loop .inv) (at-operation-at .operation-at .ensures) (at-operation-size .operation-size .ensures .0) (at-operation-size .operation-size .ensures .1) (at-after-of .after-of .ensures) (c .before .next .given .1) in omega (arith, m .0, m .1)
 
 loop-again : tie.Need-loop-again Inv-loop μ-loop
-loop-again c = count-next (c .before .before .before .before .before .before .loop .inv) (c .before .before .before .before .before .operation-at .ensures) (c .before .before .before .before .operation-size .ensures .0) (c .before .before .before .before .operation-size .ensures .1) (c .before .before .before .after-of .ensures) (c .before .next .given .1)
+loop-again c =
+    let at-after-of = after-of-before-known-told c in
+    let at-operation-size = at-after-of .before in
+    let at-operation-at = at-operation-size .before in
+    let at-loop = at-operation-at .before in
+    count-next (at-loop .loop .inv) (at-operation-at .operation-at .ensures) (at-operation-size .operation-size .ensures .0) (at-operation-size .operation-size .ensures .1) (at-after-of .after-of .ensures) (c .before .next .given .1)
 
 enum-told : tie.Need-enum-told Inv-loop μ-loop
 enum-told c = search needs
 
 returns : tie.Need-returns Inv-loop μ-loop
-returns c = count-done (c .before .before .before .before .before .loop .inv) (c .before .before .before .before .operation-at .ensures) (c .before .before .before .operation-size .ensures .0) (c .before .before .before .operation-size .ensures .1) (c .before .before .after-of .ensures) (c .enum-told .given .1)
+returns c =
+    let at-before = c .before .before in
+    let at-operation-size = at-before .before in
+    let at-operation-at = at-operation-size .before in
+    let at-loop = at-operation-at .before in
+    count-done (at-loop .loop .inv) (at-operation-at .operation-at .ensures) (at-operation-size .operation-size .ensures .0) (at-operation-size .operation-size .ensures .1) (at-before .after-of .ensures) (c .enum-told .given .1)
 
 enum-told-2 : tie.Need-enum-told-2 Inv-loop μ-loop
 enum-told-2 c = search needs
 
 returns-2 : tie.Need-returns-2 Inv-loop μ-loop
-returns-2 c = count-never (c .before .before .before .before .before .loop .inv) (c .before .before .before .before .operation-at .ensures) (c .before .before .before .operation-size .ensures .0) (c .before .before .before .operation-size .ensures .1) (c .before .before .after-of .ensures) (c .enum-told2 .given .1)
+returns-2 c =
+    let at-before = c .before .before in
+    let at-operation-size = at-before .before in
+    let at-operation-at = at-operation-size .before in
+    let at-loop = at-operation-at .before in
+    count-never (at-loop .loop .inv) (at-operation-at .operation-at .ensures) (at-operation-size .operation-size .ensures .0) (at-operation-size .operation-size .ensures .1) (at-before .after-of .ensures) (c .enum-told2 .given .1)
 
 pub block-size-spec : {M : Type 1} → statement M
 block-size-spec =

@@ -8,7 +8,9 @@ returns : tie.Need-returns
 returns c = search needs
 
 returns-2 : tie.Need-returns-2
-returns-2 c = by-label-other (c .before .args .l) (c .before .args .entry) (c .before .args .other) (c .if1 .left)
+returns-2 c =
+    let entry = c .before in
+    by-label-other (entry .args .l) (entry .args .entry) (entry .args .other) (c .if1 .left)
 
 pub by-label-spec : {M : Type 1} → statement M
 by-label-spec = tie.close (tie.spec returns returns-2)

@@ -21,10 +21,17 @@ add-result-3 : tie.Need-add-result-3
 add-result-3 c = search needs
 
 returns : tie.Need-returns
-returns c = (plain-sum (c .before .before .before .args .v) (c .before .before .before .args .h) (c .before .before .before .args .n) (c .if1 .taken) (c .before .before .jump-size .ensures), omega (arith, c .before .before .jump-size .ensures, c .before .before .before .pre .1))
+returns c =
+    let at-jump-size = c .before .before in
+    let entry = at-jump-size .before in
+    (plain-sum (entry .args .v) (entry .args .h) (entry .args .n) (c .if1 .taken) (at-jump-size .jump-size .ensures), omega (arith, at-jump-size .jump-size .ensures, entry .pre .1))
 
 returns-2 : tie.Need-returns-2
-returns-2 c = (guarded-sum (c .before .before .before .args .v) (c .before .before .before .args .h) (c .before .before .before .args .n) (c .if1 .left) (c .before .before .jump-size .ensures) (c .before .jump-size2 .ensures), omega (arith, c .before .before .jump-size .ensures, c .before .jump-size2 .ensures, c .before .before .before .pre .0, c .before .before .before .pre .1))
+returns-2 c =
+    let at-jump-size2 = c .before in
+    let at-jump-size = at-jump-size2 .before in
+    let entry = at-jump-size .before in
+    (guarded-sum (entry .args .v) (entry .args .h) (entry .args .n) (c .if1 .left) (at-jump-size .jump-size .ensures) (at-jump-size2 .jump-size2 .ensures), omega (arith, at-jump-size .jump-size .ensures, at-jump-size2 .jump-size2 .ensures, entry .pre .0, entry .pre .1))
 
 pub call-size-spec : {M : Type 1} → statement M
 call-size-spec =

@@ -13,6 +13,10 @@ Inv-loop file starts handlers params locals blocks count n₀ f₀ n f = Functio
 abbrev μ-loop : tie.MeasureT-loop
 μ-loop file starts handlers params locals blocks count n₀ f₀ n f = count - f
 
+-- Ways back to earlier places that several answers take.
+abbrev entry-before-byte-number : tie.After-byte-number Inv-loop μ-loop → tie.Start Inv-loop μ-loop
+entry-before-byte-number c = c .before .before .before
+
 shared-slice-read-byte-number : tie.Need-shared-slice-read-byte-number Inv-loop μ-loop
 shared-slice-read-byte-number c = inside (c .before .before .pre)
 
@@ -20,25 +24,40 @@ byte-number-requires : tie.Need-byte-number-requires Inv-loop μ-loop
 byte-number-requires c κs = search needs
 
 loop-holds : tie.Need-loop-holds Inv-loop μ-loop
-loop-holds c = (functions-start (c .before .before .before .args .file .now), omega arith)
+loop-holds c =
+    let entry = entry-before-byte-number c in
+    (functions-start (entry .args .file .now), omega arith)
 
 function-size-requires : tie.Need-function-size-requires Inv-loop μ-loop
-function-size-requires c κs = (c .before .before .before .before .before .pre, omega (arith, c .loop-test .taken, c .before .before .byte-number .ensures .0, count-is (c .before .before .before .before .before .pre)))
+function-size-requires c κs =
+    let entry = c .before .before .before .before .before in
+    (entry .pre, omega (arith, c .loop-test .taken, c .before .before .byte-number .ensures .0, count-is (entry .pre)))
 
 add-n : tie.Need-add-n Inv-loop μ-loop
-add-n c = omega (arith, c .before .before .loop .inv .0 .few, c .function-size .ensures .1, c .before .loop-test .taken, c .before .before .before .byte-number .ensures .1)
+add-n c =
+    let at-before = c .before .before in
+    let at-byte-number = at-before .before in
+    omega (arith, at-before .loop .inv .0 .few, c .function-size .ensures .1, c .before .loop-test .taken, at-byte-number .byte-number .ensures .1)
 
 add-f : tie.Need-add-f Inv-loop μ-loop
-add-f c = omega (arith, c .before .loop-test .taken, c .before .before .before .byte-number .ensures .1)
+add-f c =
+    let at-byte-number = c .before .before .before in
+    omega (arith, c .before .loop-test .taken, at-byte-number .byte-number .ensures .1)
 
 loop-less : tie.Need-loop-less Inv-loop μ-loop
 loop-less c = omega (arith, c .before .loop-test .taken)
 
 loop-again : tie.Need-loop-again Inv-loop μ-loop
-loop-again c = (functions-next (c .before .before .loop .inv .0) (omega (arith, c .before .loop-test .taken, c .before .before .before .byte-number .ensures .0, count-is (c .before .before .before .before .before .before .pre))) (c .function-size .ensures .0) (c .function-size .ensures .1), omega (arith, c .before .loop-test .taken))
+loop-again c =
+    let at-loop-test = c .before in
+    let at-byte-number = at-loop-test .before .before in
+    let entry = entry-before-byte-number at-byte-number in
+    (functions-next (c .before .before .loop .inv .0) (omega (arith, at-loop-test .loop-test .taken, at-byte-number .byte-number .ensures .0, count-is (entry .pre))) (c .function-size .ensures .0) (c .function-size .ensures .1), omega (arith, at-loop-test .loop-test .taken))
 
 returns : tie.Need-returns Inv-loop μ-loop
-returns c = functions-end (c .before .loop .inv .0) (omega (arith, c .loop-test .left, c .before .before .byte-number .ensures .0, count-is (c .before .before .before .before .before .pre)))
+returns c =
+    let entry = c .before .before .before .before .before in
+    functions-end (c .before .loop .inv .0) (omega (arith, c .loop-test .left, c .before .before .byte-number .ensures .0, count-is (entry .pre)))
 
 pub file-size-spec : {M : Type 1} → statement M
 file-size-spec =

@@ -13,6 +13,10 @@ Inv-loop file starts handlers params locals blocks f labels n₀ l₀ n l = Bloc
 abbrev μ-loop : tie.MeasureT-loop
 μ-loop file starts handlers params locals blocks f labels n₀ l₀ n l = labels + 1 - l
 
+-- Ways back to earlier places that several answers take.
+abbrev entry-before-byte-number : tie.After-byte-number Inv-loop μ-loop → tie.Start Inv-loop μ-loop
+entry-before-byte-number c = c .before .before .before
+
 element-copy-out-byte-number : tie.Need-element-copy-out-byte-number Inv-loop μ-loop
 element-copy-out-byte-number c = omega (arith, few-functions (c .before .pre .0), c .before .pre .1)
 
@@ -20,25 +24,42 @@ byte-number-requires : tie.Need-byte-number-requires Inv-loop μ-loop
 byte-number-requires c κs = search needs
 
 loop-holds : tie.Need-loop-holds Inv-loop μ-loop
-loop-holds c = (blocks-start (c .before .before .before .args .file .now) (c .before .before .before .args .f), omega arith)
+loop-holds c =
+    let entry = entry-before-byte-number c in
+    (blocks-start (entry .args .file .now) (entry .args .f), omega arith)
 
 label-size-requires : tie.Need-label-size-requires Inv-loop μ-loop
-label-size-requires c κs = (c .before .before .before .before .before .pre .0, (c .before .before .before .before .before .pre .1, label-inside (c .before .before .before .before .before .pre .0) (c .before .before .before .before .before .args .f) (c .before .before .before .before .before .pre .1) (c .before .before .byte-number .ensures .0) (c .loop-test .taken)))
+label-size-requires c κs =
+    let entry = c .before .before .before .before .before in
+    (entry .pre .0, (entry .pre .1, label-inside (entry .pre .0) (entry .args .f) (entry .pre .1) (c .before .before .byte-number .ensures .0) (c .loop-test .taken)))
 
 add-n : tie.Need-add-n Inv-loop μ-loop
-add-n c = omega (arith, c .before .before .loop .inv .0 .few, c .label-size .ensures .few, c .before .loop-test .taken, c .before .before .before .byte-number .ensures .1)
+add-n c =
+    let at-before = c .before .before in
+    let at-byte-number = at-before .before in
+    omega (arith, at-before .loop .inv .0 .few, c .label-size .ensures .few, c .before .loop-test .taken, at-byte-number .byte-number .ensures .1)
 
 add-l : tie.Need-add-l Inv-loop μ-loop
-add-l c = omega (arith, c .before .loop-test .taken, c .before .before .before .byte-number .ensures .1)
+add-l c =
+    let at-byte-number = c .before .before .before in
+    omega (arith, c .before .loop-test .taken, at-byte-number .byte-number .ensures .1)
 
 loop-less : tie.Need-loop-less Inv-loop μ-loop
 loop-less c = omega (arith, c .before .loop-test .taken)
 
 loop-again : tie.Need-loop-again Inv-loop μ-loop
-loop-again c = (blocks-next (c .before .before .loop .inv .0) (label-inside (c .before .before .before .before .before .before .pre .0) (c .before .before .before .before .before .before .args .f) (c .before .before .before .before .before .before .pre .1) (c .before .before .before .byte-number .ensures .0) (c .before .loop-test .taken)) (c .label-size .ensures), omega (arith, c .before .loop-test .taken))
+loop-again c =
+    let at-loop-test = c .before in
+    let at-byte-number = at-loop-test .before .before in
+    let entry = entry-before-byte-number at-byte-number in
+    (blocks-next (c .before .before .loop .inv .0) (label-inside (entry .pre .0) (entry .args .f) (entry .pre .1) (at-byte-number .byte-number .ensures .0) (at-loop-test .loop-test .taken)) (c .label-size .ensures), omega (arith, at-loop-test .loop-test .taken))
 
 returns : tie.Need-returns Inv-loop μ-loop
-returns c = (blocks-end (c .before .loop .inv .0) (label-outside (c .before .before .before .before .before .pre .0) (c .before .before .before .before .before .args .f) (c .before .before .before .before .before .pre .1) (c .before .before .byte-number .ensures .0) (omega (arith, c .loop-test .left))), omega (arith, c .before .loop .inv .0 .few, c .before .loop .inv .1, labels-low (c .before .before .before .before .before .pre .0) (c .before .before .before .before .before .args .f) (c .before .before .before .before .before .pre .1) (c .before .before .byte-number .ensures .0)))
+returns c =
+    let at-loop = c .before in
+    let at-byte-number = at-loop .before in
+    let entry = entry-before-byte-number at-byte-number in
+    (blocks-end (at-loop .loop .inv .0) (label-outside (entry .pre .0) (entry .args .f) (entry .pre .1) (at-byte-number .byte-number .ensures .0) (omega (arith, c .loop-test .left))), omega (arith, at-loop .loop .inv .0 .few, at-loop .loop .inv .1, labels-low (entry .pre .0) (entry .args .f) (entry .pre .1) (at-byte-number .byte-number .ensures .0)))
 
 pub function-size-spec : {M : Type 1} → statement M
 function-size-spec =

@@ -7,20 +7,32 @@ use borrow.Author.Needs.{needs}
 use Rattle.translator.proofs.sizes.label_size.Statement.{statement}
 use Rattle.translator.proofs.sizes.label_size.Tie as tie
 
+-- Ways back to earlier places that several answers take.
+abbrev entry-before-byte-number : tie.After-byte-number → tie.Start
+entry-before-byte-number c = c .before .before .before .before .before
+
 mul-slot : tie.Need-mul-slot
-mul-slot c = omega (arith, slot-low (c .before .pre .0) (c .before .args .f) (c .before .pre .1 .0) (c .before .args .l) (c .before .pre .1 .1))
+mul-slot c =
+    let entry = c .before in
+    omega (arith, slot-low (entry .pre .0) (entry .args .f) (entry .pre .1 .0) (entry .args .l) (entry .pre .1 .1))
 
 add-slot : tie.Need-add-slot
-add-slot c = omega (arith, slot-low (c .before .pre .0) (c .before .args .f) (c .before .pre .1 .0) (c .before .args .l) (c .before .pre .1 .1))
+add-slot c =
+    let entry = c .before in
+    omega (arith, slot-low (entry .pre .0) (entry .args .f) (entry .pre .1 .0) (entry .args .l) (entry .pre .1 .1))
 
 element-copy-out-others : tie.Need-element-copy-out-others
 element-copy-out-others c = omega (arith, few-functions (c .before .pre .0), c .before .pre .1 .0)
 
 element-copy-out-v : tie.Need-element-copy-out-v
-element-copy-out-v c = omega (arith, few-functions (c .before .before .pre .0), c .before .before .pre .1 .0)
+element-copy-out-v c =
+    let entry = c .before .before in
+    omega (arith, few-functions (entry .pre .0), entry .pre .1 .0)
 
 add-v : tie.Need-add-v
-add-v c = omega (arith, own-low (c .before .before .before .pre .0) (c .before .before .before .args .f) (c .before .before .before .pre .1 .0) (c .before .before .before .args .l) (c .before .before .before .pre .1 .1) refl refl refl, others-low (c .before .before .before .pre .0) (c .before .before .before .args .f) (c .before .before .before .pre .1 .0) (c .before .before .before .args .l) (c .before .before .before .pre .1 .1) refl refl refl)
+add-v c =
+    let entry = c .before .before .before in
+    omega (arith, own-low (entry .pre .0) (entry .args .f) (entry .pre .1 .0) (entry .args .l) (entry .pre .1 .1) refl refl refl, others-low (entry .pre .0) (entry .args .f) (entry .pre .1 .0) (entry .args .l) (entry .pre .1 .1) refl refl refl)
 
 by-label-requires : tie.Need-by-label-requires
 by-label-requires c κs = search needs
@@ -29,19 +41,27 @@ byte-number-requires : tie.Need-byte-number-requires
 byte-number-requires c κs = search needs
 
 mul-offset-number : tie.Need-mul-offset-number
-mul-offset-number c = omega (arith, slot-low (c .before .before .before .before .before .pre .0) (c .before .before .before .before .before .args .f) (c .before .before .before .before .before .pre .1 .0) (c .before .before .before .before .before .args .l) (c .before .before .before .before .before .pre .1 .1))
+mul-offset-number c =
+    let entry = entry-before-byte-number c in
+    omega (arith, slot-low (entry .pre .0) (entry .args .f) (entry .pre .1 .0) (entry .args .l) (entry .pre .1 .1))
 
 element-copy-out-offset-number : tie.Need-element-copy-out-offset-number
-element-copy-out-offset-number c = slot-low (c .before .before .before .before .before .pre .0) (c .before .before .before .before .before .args .f) (c .before .before .before .before .before .pre .1 .0) (c .before .before .before .before .before .args .l) (c .before .before .before .before .before .pre .1 .1)
+element-copy-out-offset-number c =
+    let entry = entry-before-byte-number c in
+    slot-low (entry .pre .0) (entry .args .f) (entry .pre .1 .0) (entry .args .l) (entry .pre .1 .1)
 
 offset-number-requires : tie.Need-offset-number-requires
 offset-number-requires c κs = search needs
 
 element-copy-out-h : tie.Need-element-copy-out-h
-element-copy-out-h c = slot-low (c .before .before .before .before .before .before .before .pre .0) (c .before .before .before .before .before .before .before .args .f) (c .before .before .before .before .before .before .before .pre .1 .0) (c .before .before .before .before .before .before .before .args .l) (c .before .before .before .before .before .before .before .pre .1 .1)
+element-copy-out-h c =
+    let entry = c .before .before .before .before .before .before .before in
+    slot-low (entry .pre .0) (entry .args .f) (entry .pre .1 .0) (entry .args .l) (entry .pre .1 .1)
 
 block-size-requires : tie.Need-block-size-requires
-block-size-requires c κs = label-here (c .before .before .before .before .before .before .before .before .pre .0) (c .before .before .before .before .before .before .before .before .args .f) (c .before .before .before .before .before .before .before .before .pre .1 .0) (c .before .before .before .before .before .before .before .before .args .l) (c .before .before .before .before .before .before .before .before .pre .1 .1) refl refl refl (c .before .offset-number .ensures .0)
+block-size-requires c κs =
+    let entry = c .before .before .before .before .before .before .before .before in
+    label-here (entry .pre .0) (entry .args .f) (entry .pre .1 .0) (entry .args .l) (entry .pre .1 .1) refl refl refl (c .before .offset-number .ensures .0)
 
 mul-result : tie.Need-mul-result
 mul-result c = search needs
@@ -53,7 +73,11 @@ add-result-2 : tie.Need-add-result-2
 add-result-2 c = search needs
 
 returns : tie.Need-returns
-returns c = label-sized (c .before .before .before .before .before .before .before .before .before .pre .0) (c .before .before .before .before .before .before .before .before .before .args .f) (c .before .before .before .before .before .before .before .before .before .pre .1 .0) (c .before .before .before .before .before .before .before .before .before .args .l) (c .before .before .before .before .before .before .before .before .before .pre .1 .1) refl refl refl (c .before .before .offset-number .ensures .0) (c .before .before .before .before .byte-number .ensures .0 ∙ c .before .before .before .before .before .by-label .ensures) (c .block-size .ensures)
+returns c =
+    let at-byte-number = c .before .before .before .before in
+    let at-by-label = at-byte-number .before in
+    let entry = at-by-label .before .before .before .before in
+    label-sized (entry .pre .0) (entry .args .f) (entry .pre .1 .0) (entry .args .l) (entry .pre .1 .1) refl refl refl (c .before .before .offset-number .ensures .0) (at-byte-number .byte-number .ensures .0 ∙ at-by-label .by-label .ensures) (c .block-size .ensures)
 
 pub label-size-spec : {M : Type 1} → statement M
 label-size-spec =

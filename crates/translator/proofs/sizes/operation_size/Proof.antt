@@ -19,7 +19,9 @@ enum-known-x : tie.Need-enum-known-x
 enum-known-x c = search needs
 
 call-size-requires : tie.Need-call-size-requires
-call-size-requires c κs = (c .before .before .before .pre .0, subst Few (c .before .x .given .1) (c .before .before .before .pre .1))
+call-size-requires c κs =
+    let entry = c .before .before .before in
+    (entry .pre .0, subst Few (c .before .x .given .1) (entry .pre .1))
 
 enum-told-4 : tie.Need-enum-told-4
 enum-told-4 c = search needs
@@ -55,19 +57,27 @@ returns-3 : tie.Need-returns-3
 returns-3 c = search needs
 
 returns-4 : tie.Need-returns-4
-returns-4 c = (c .call-size .ensures .0 ∙ sym (ap (operationSize (c .before .before .before .before .args .v) (c .before .before .before .before .args .h)) (c .before .before .x .given .1)), c .call-size .ensures .1)
+returns-4 c =
+    let entry = c .before .before .before .before in
+    (c .call-size .ensures .0 ∙ sym (ap (operationSize (entry .args .v) (entry .args .h)) (c .before .before .x .given .1)), c .call-size .ensures .1)
 
 returns-5 : tie.Need-returns-5
-returns-5 c = (c .goto-size .ensures .0 ∙ sym (ap (operationSize (c .before .before .before .args .v) (c .before .before .before .args .h)) (c .before .enum-told4 .given .1)), c .goto-size .ensures .1)
+returns-5 c =
+    let entry = c .before .before .before in
+    (c .goto-size .ensures .0 ∙ sym (ap (operationSize (entry .args .v) (entry .args .h)) (c .before .enum-told4 .given .1)), c .goto-size .ensures .1)
 
 returns-6 : tie.Need-returns-6
 returns-6 c = search needs
 
 returns-7 : tie.Need-returns-7
-returns-7 c = (c .branch-size .ensures .0 ∙ sym (ap (operationSize (c .before .before .before .args .v) (c .before .before .before .args .h)) (c .before .enum-told6 .given .1)), c .branch-size .ensures .1)
+returns-7 c =
+    let entry = c .before .before .before in
+    (c .branch-size .ensures .0 ∙ sym (ap (operationSize (entry .args .v) (entry .args .h)) (c .before .enum-told6 .given .1)), c .branch-size .ensures .1)
 
 returns-8 : tie.Need-returns-8
-returns-8 c = (c .raise-size .ensures .0 ∙ sym (ap (operationSize (c .before .before .before .args .v) (c .before .before .before .args .h)) (c .before .enum-told7 .given .1)), c .raise-size .ensures .1)
+returns-8 c =
+    let entry = c .before .before .before in
+    (c .raise-size .ensures .0 ∙ sym (ap (operationSize (entry .args .v) (entry .args .h)) (c .before .enum-told7 .given .1)), c .raise-size .ensures .1)
 
 returns-9 : tie.Need-returns-9
 returns-9 c = search needs

@@ -9,10 +9,14 @@ jump-size-requires : tie.Need-jump-size-requires
 jump-size-requires c κs = search needs
 
 returns : tie.Need-returns
-returns c = (uncaught-sum (c .before .before .args .v) (c .before .before .args .h) (c .if1 .taken), omega arith)
+returns c =
+    let entry = c .before .before in
+    (uncaught-sum (entry .args .v) (entry .args .h) (c .if1 .taken), omega arith)
 
 returns-2 : tie.Need-returns-2
-returns-2 c = (caught-sum (c .before .before .args .v) (c .before .before .args .h) (c .if1 .left) (c .before .jump-size .ensures), omega (arith, c .before .jump-size .ensures, c .before .before .pre))
+returns-2 c =
+    let entry = c .before .before in
+    (caught-sum (entry .args .v) (entry .args .h) (c .if1 .left) (c .before .jump-size .ensures), omega (arith, c .before .jump-size .ensures, entry .pre))
 
 pub raise-size-spec : {M : Type 1} → statement M
 raise-size-spec = tie.close (tie.spec jump-size-requires returns returns-2)
