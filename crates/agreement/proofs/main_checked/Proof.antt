@@ -46,13 +46,15 @@ returns-2 : tie.Need-returns-2
 returns-2 c =
     let at-load = c .before .before .before .before in
     let entry = entry-before-load at-load in
-    ap verdictOf (c .turned-down .ensures) ∙ main-14 (entry .args .file .now) (entry .args .given) (at-load .load .ensures .0) (c .before .before .enum-told .given .1) _ _ _ _ _ _ _ _ _ _ (at-load .load .ensures .1) refl (c .before .if1 .taken)
+    ap verdictOf (c .turned-down .ensures) ∙ main-14 (entry .args .file .now) (entry .args .given) (at-load .load .ensures .0) (c .before .before .enum-told .given .1) _ _ _ _ _ _
+    _ _ _ _ (at-load .load .ensures .1) refl (c .before .if1 .taken)
 
 returns-3 : tie.Need-returns-3
 returns-3 c =
     let at-load = c .before .before .before in
     let entry = entry-before-load at-load in
-    main-fits (entry .args .file .now) (entry .args .given) (at-load .load .ensures .0) (c .before .enum-told .given .1) _ _ _ _ _ _ _ _ _ _ (at-load .load .ensures .1) refl (c .if1 .left)
+    main-fits (entry .args .file .now) (entry .args .given) (at-load .load .ensures .0) (c .before .enum-told .given .1) _ _ _ _ _ _ _ _ _ _ (at-load .load .ensures .1) refl
+    (c .if1 .left)
 
 pub main-checked-spec : {M : Type 1} → statement M
 main-checked-spec =

@@ -34,7 +34,11 @@ add-steps : tie.Need-add-steps
 add-steps c =
     let at-run = run-before-struct-known c in
     let entry = entry-before-run at-run in
-    omega (arith, sum-small (entry .pre) (entry .args .budget) (at-run .run .result) (at-run .run .ensures .0) (entry .fits .budget .fits), more-small (entry .pre) (entry .args .budget) (at-run .run .result) (at-run .run .ensures .0) (c .before .one-more-if-deep .ensures))
+    omega (
+      arith,
+      sum-small (entry .pre) (entry .args .budget) (at-run .run .result) (at-run .run .ensures .0) (entry .fits .budget .fits),
+      more-small (entry .pre) (entry .args .budget) (at-run .run .result) (at-run .run .ensures .0) (c .before .one-more-if-deep .ensures),
+    )
 
 run-requires-2 : tie.Need-run-requires-2
 run-requires-2 c κs = search needs
@@ -51,7 +55,8 @@ returns c =
     let at-one-more-if-deep = at-run2 .before .before .before in
     let at-run = at-one-more-if-deep .before .before in
     let entry = entry-before-run at-run in
-    both-ran (entry .pre) (entry .args .budget) (at-run .run .result) (at-run .run .ensures .0) (at-one-more-if-deep .one-more-if-deep .ensures) (at-run2 .run2 .result) _ _ refl (at-run2 .run2 .ensures .0) (at-run .run .ensures .1) (at-run2 .run2 .ensures .1)
+    both-ran (entry .pre) (entry .args .budget) (at-run .run .result) (at-run .run .ensures .0) (at-one-more-if-deep .one-more-if-deep .ensures) (at-run2 .run2 .result) _ _ refl
+    (at-run2 .run2 .ensures .0) (at-run .run .ensures .1) (at-run2 .run2 .ensures .1)
 
 pub run-both-spec : {M : Type 1} → statement M
 run-both-spec =

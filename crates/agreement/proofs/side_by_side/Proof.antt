@@ -33,7 +33,8 @@ returns : tie.Need-returns
 returns c =
     let at-call-judged = c .before .before .before .before in
     let entry = entry-before-call-judged at-call-judged in
-    call-refused (entry .args .file .now) (entry .args .arguments .now) (entry .args .depth) (entry .args .budget) (entry .args .frames .now) (entry .args .room .now) (entry .args .records .now) (at-call-judged .call-judged .ensures) (c .refused .result) (c .before .before .r .given .1) (c .refused .ensures)
+    call-refused (entry .args .file .now) (entry .args .arguments .now) (entry .args .depth) (entry .args .budget) (entry .args .frames .now) (entry .args .room .now)
+    (entry .args .records .now) (at-call-judged .call-judged .ensures) (c .refused .result) (c .before .before .r .given .1) (c .refused .ensures)
 
 enum-told : tie.Need-enum-told
 enum-told c = search needs
@@ -56,7 +57,9 @@ slice-reshare-prefix-run-both c =
     let at-enum-told = at-translate .before .before in
     let at-call-judged = at-enum-told .before .before in
     let entry = entry-before-call-judged at-call-judged in
-    size-there (entry .args .file .now) (entry .args .arguments .now) (entry .args .depth) (entry .args .budget) (entry .args .frames .now) (entry .args .room .now) (entry .args .records .now) (at-call-judged .call-judged .ensures) (at-enum-told .enum-told .given .1) (at-translate .translate .result) _ (at-translate .translate .ensures .0) (at-translate .translate .ensures .1) (c .before .size .given .1)
+    size-there (entry .args .file .now) (entry .args .arguments .now) (entry .args .depth) (entry .args .budget) (entry .args .frames .now) (entry .args .room .now)
+    (entry .args .records .now) (at-call-judged .call-judged .ensures) (at-enum-told .enum-told .given .1) (at-translate .translate .result) _
+    (at-translate .translate .ensures .0) (at-translate .translate .ensures .1) (c .before .size .given .1)
 
 slice-aggregate-run-both : tie.Need-slice-aggregate-run-both
 slice-aggregate-run-both c =
@@ -64,7 +67,9 @@ slice-aggregate-run-both c =
     let at-enum-told = at-translate .before .before in
     let at-call-judged = at-enum-told .before .before in
     let entry = entry-before-call-judged at-call-judged in
-    sym (length-take-le _ _ (size-there (entry .args .file .now) (entry .args .arguments .now) (entry .args .depth) (entry .args .budget) (entry .args .frames .now) (entry .args .room .now) (entry .args .records .now) (at-call-judged .call-judged .ensures) (at-enum-told .enum-told .given .1) (at-translate .translate .result) _ (at-translate .translate .ensures .0) (at-translate .translate .ensures .1) (c .before .before .size .given .1)))
+    sym (length-take-le _ _ (size-there (entry .args .file .now) (entry .args .arguments .now) (entry .args .depth) (entry .args .budget) (entry .args .frames .now) (entry .args
+    .room .now) (entry .args .records .now) (at-call-judged .call-judged .ensures) (at-enum-told .enum-told .given .1) (at-translate .translate .result) _ (at-translate
+    .translate .ensures .0) (at-translate .translate .ensures .1) (c .before .before .size .given .1)))
 
 run-both-requires : tie.Need-run-both-requires
 run-both-requires c κs =
@@ -74,7 +79,10 @@ run-both-requires c κs =
     let at-call-judged = at-enum-told .before .before in
     let at-shared-slice-known = at-call-judged .before .before in
     let entry = at-shared-slice-known .before in
-    is-ready (entry .args .file .now) (entry .args .arguments .now) (entry .args .depth) (entry .args .budget) (entry .args .frames .now) (entry .args .room .now) (entry .args .records .now) (at-call-judged .call-judged .ensures) (at-enum-told .enum-told .given .1) (at-translate .translate .result) _ (at-translate .translate .ensures .0) (at-translate .translate .ensures .1) (at-size .size .given .1) (λ i. omega (arith, at-shared-slice-known .shared-slice-known .given i))
+    is-ready (entry .args .file .now) (entry .args .arguments .now) (entry .args .depth) (entry .args .budget) (entry .args .frames .now) (entry .args .room .now)
+    (entry .args .records .now) (at-call-judged .call-judged .ensures) (at-enum-told .enum-told .given .1) (at-translate .translate .result) _
+    (at-translate .translate .ensures .0) (at-translate .translate .ensures .1) (at-size .size .given .1)
+    (λ i. omega (arith, at-shared-slice-known .shared-slice-known .given i))
 
 same-length : tie.Need-same-length
 same-length c = search needs
@@ -85,7 +93,9 @@ returns-2 c =
     let at-enum-told = at-translate .before .before in
     let at-call-judged = at-enum-told .before .before in
     let entry = entry-before-call-judged at-call-judged in
-    room-refused (entry .args .file .now) (entry .args .arguments .now) (entry .args .depth) (entry .args .budget) (entry .args .frames .now) (entry .args .room .now) (entry .args .records .now) (at-call-judged .call-judged .ensures) (at-enum-told .enum-told .given .1) (at-translate .translate .result) _ (at-translate .translate .ensures .0) (at-translate .translate .ensures .1) (c .refused2 .result) (c .before .before .r2 .given .1) (c .refused2 .ensures)
+    room-refused (entry .args .file .now) (entry .args .arguments .now) (entry .args .depth) (entry .args .budget) (entry .args .frames .now) (entry .args .room .now)
+    (entry .args .records .now) (at-call-judged .call-judged .ensures) (at-enum-told .enum-told .given .1) (at-translate .translate .result) _
+    (at-translate .translate .ensures .0) (at-translate .translate .ensures .1) (c .refused2 .result) (c .before .before .r2 .given .1) (c .refused2 .ensures)
 
 same-length-2 : tie.Need-same-length-2
 same-length-2 c = search needs
@@ -104,7 +114,9 @@ returns-3 c =
     let at-enum-told = at-translate .before .before in
     let at-call-judged = at-enum-told .before .before in
     let entry = entry-before-call-judged at-call-judged in
-    ran-both (entry .args .file .now) (entry .args .arguments .now) (entry .args .depth) (entry .args .budget) (entry .args .frames .now) (entry .args .room .now) (entry .args .records .now) (at-call-judged .call-judged .ensures) (at-enum-told .enum-told .given .1) (at-translate .translate .result) _ (at-translate .translate .ensures .0) (at-translate .translate .ensures .1) (at-size .size .given .1) (at-run-both .run-both .result) _ _ (at-run-both .run-both .ensures)
+    ran-both (entry .args .file .now) (entry .args .arguments .now) (entry .args .depth) (entry .args .budget) (entry .args .frames .now) (entry .args .room .now)
+    (entry .args .records .now) (at-call-judged .call-judged .ensures) (at-enum-told .enum-told .given .1) (at-translate .translate .result) _
+    (at-translate .translate .ensures .0) (at-translate .translate .ensures .1) (at-size .size .given .1) (at-run-both .run-both .result) _ _ (at-run-both .run-both .ensures)
 
 pub side-by-side-spec : {M : Type 1} → statement M
 side-by-side-spec =

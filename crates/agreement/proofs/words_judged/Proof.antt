@@ -25,25 +25,26 @@ turned-down-requires-2 c κs = search needs
 
 returns-2 : tie.Need-returns-2
 returns-2 c =
-    let at-before = c .before .before in
-    let entry = at-before .before in
-    ap verdictOf (c .turned-down2 .ensures) ∙ words-frames (entry .args .depth) (entry .args .frames) (entry .args .records) (at-before .if1 .left) (c .before .if2 .taken)
+    let at-if1 = c .before .before in
+    let entry = at-if1 .before in
+    ap verdictOf (c .turned-down2 .ensures) ∙ words-frames (entry .args .depth) (entry .args .frames) (entry .args .records) (at-if1 .if1 .left) (c .before .if2 .taken)
 
 turned-down-requires-3 : tie.Need-turned-down-requires-3
 turned-down-requires-3 c κs = search needs
 
 returns-3 : tie.Need-returns-3
 returns-3 c =
-    let at-before = c .before .before in
-    let at-if1 = at-before .before in
+    let at-if2 = c .before .before in
+    let at-if1 = at-if2 .before in
     let entry = at-if1 .before in
-    ap verdictOf (c .turned-down3 .ensures) ∙ words-records (entry .args .depth) (entry .args .frames) (entry .args .records) (at-if1 .if1 .left) (at-before .if2 .left) (c .before .if3 .taken)
+    ap verdictOf (c .turned-down3 .ensures) ∙ words-records (entry .args .depth) (entry .args .frames) (entry .args .records) (at-if1 .if1 .left) (at-if2 .if2 .left)
+    (c .before .if3 .taken)
 
 returns-4 : tie.Need-returns-4
 returns-4 c =
-    let at-before = c .before .before in
-    let entry = at-before .before in
-    words-fit (entry .args .depth) (entry .args .frames) (entry .args .records) (at-before .if1 .left) (c .before .if2 .left) (c .if3 .left)
+    let at-if1 = c .before .before in
+    let entry = at-if1 .before in
+    words-fit (entry .args .depth) (entry .args .frames) (entry .args .records) (at-if1 .if1 .left) (c .before .if2 .left) (c .if3 .left)
 
 pub words-judged-spec : {M : Type 1} → statement M
 words-judged-spec =

@@ -47,7 +47,9 @@ returns c = search needs
 
 returns-2 : tie.Need-returns-2
 unfolding valueOf
-returns-2 c = let a = c .before .args in toZ-ofZ (value-fits (a .b0 + 256 * a .b1 + 65536 * a .b2) (a .b3) (omega arith) (omega arith) (omega arith)) ∙ value-high (a .b0 + 256 * a .b1 + 65536 * a .b2) (a .b3) (omega arith) (omega arith) (omega arith)
+returns-2 c =
+    let a = c .before .args in toZ-ofZ (value-fits (a .b0 + 256 * a .b1 + 65536 * a .b2) (a .b3) (omega arith) (omega arith) (omega arith)) ∙ value-high
+    (a .b0 + 256 * a .b1 + 65536 * a .b2) (a .b3) (omega arith) (omega arith) (omega arith)
 
 pub value-spec : {M : Type 1} → statement M
 value-spec =

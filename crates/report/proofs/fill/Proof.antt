@@ -39,7 +39,8 @@ loop-again : tie.Need-loop-again Inv-loop μ-loop
 loop-again c =
     let s = c .before .before .before .before in
     let l = c .before .before .loop in
-    filled-more (s .args .input .now) (s .args .n) (l .i) (s .args .arguments .now) (l .arguments) (l .inv) (omega arith) (omega arith) (c .argument .ensures) (toZ-ofZ {w = w32} (record { sfits = c .argument .ok }))
+    filled-more (s .args .input .now) (s .args .n) (l .i) (s .args .arguments .now) (l .arguments) (l .inv) (omega arith) (omega arith) (c .argument .ensures)
+    (toZ-ofZ {w = w32} (record { sfits = c .argument .ok }))
 
 same-length : tie.Need-same-length Inv-loop μ-loop
 same-length c = c .before .loop .inv .long

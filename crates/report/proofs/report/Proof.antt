@@ -126,8 +126,10 @@ returns-3 c =
     let at-word = at-fill .before .before in
     let at-pair = at-word .before .before .before .before .before in
     let at-if2 = at-pair .before .before .before in
-    let s = c .before .before .before .before .before .before .before .before .before .before .before .before .before .before .before .before .before .before .before in
-    (wrote-as (with-header (s .args .input .now) (at-if2 .if2 .left) refl (at-fill .fill .ensures) (at-pair .pair .ensures) (at-word .word .ensures)) (c .write-file .ensures), wrote-within (c .write-file .ensures))
+    let s = c .before .before .before .before .before .before .before .before .before .before .before .before .before .before .before .before .before .before .before in (
+      wrote-as (with-header (s .args .input .now) (at-if2 .if2 .left) refl (at-fill .fill .ensures) (at-pair .pair .ensures) (at-word .word .ensures)) (c .write-file .ensures),
+      wrote-within (c .write-file .ensures),
+    )
 
 pub report-spec : {M : Type 1} → statement M
 report-spec =

@@ -27,7 +27,8 @@ returns : tie.Need-returns
 returns c =
     let at-if1 = c .before .before .before .before in
     let entry = at-if1 .before .before .before in
-    wrote-as (file-15 (entry .args .file .now) (entry .args .arguments .now) (entry .args .depth) (entry .args .budget) (at-if1 .if1 .taken)) (c .before .before .write-refused .ensures)
+    wrote-as (file-15 (entry .args .file .now) (entry .args .arguments .now) (entry .args .depth) (entry .args .budget) (at-if1 .if1 .taken))
+    (c .before .before .write-refused .ensures)
 
 slice-aggregate-translate : tie.Need-slice-aggregate-translate
 slice-aggregate-translate c = search needs
@@ -50,7 +51,10 @@ returns-2 c =
     let at-translate = at-r .before .before .before in
     let at-if1 = at-translate .before .before in
     let entry = entry-before-else1 at-if1 in
-    wrote-as (file-refused (entry .args .file .now) (entry .args .arguments .now) (entry .args .depth) (entry .args .budget) (at-if1 .if1 .left) (at-translate .translate .result) (at-translate .translate .ensures .0) (at-r .r .given .1)) (c .before .before .write-refusal .ensures)
+    wrote-as
+    (file-refused (entry .args .file .now) (entry .args .arguments .now) (entry .args .depth) (entry .args .budget) (at-if1 .if1 .left) (at-translate .translate .result)
+    (at-translate .translate .ensures .0) (at-r .r .given .1))
+    (c .before .before .write-refusal .ensures)
 
 enum-told : tie.Need-enum-told
 enum-told c = search needs
@@ -80,7 +84,10 @@ returns-3 c =
     let at-translate = at-enum-told .before .before .before in
     let at-if1 = at-translate .before .before in
     let entry = entry-before-else1 at-if1 in
-    wrote-as (file-sides (entry .args .file .now) (entry .args .arguments .now) (entry .args .depth) (entry .args .budget) (at-if1 .if1 .left) (at-translate .translate .result) (at-translate .translate .ensures .0) (at-enum-told .enum-told .given .1) _ _ _ (at-side-by-side .side-by-side .ensures .0) (omega arith) (omega arith) (omega arith)) (c .before .before .write-sides .ensures)
+    wrote-as
+    (file-sides (entry .args .file .now) (entry .args .arguments .now) (entry .args .depth) (entry .args .budget) (at-if1 .if1 .left) (at-translate .translate .result)
+    (at-translate .translate .ensures .0) (at-enum-told .enum-told .given .1) _ _ _ (at-side-by-side .side-by-side .ensures .0) (omega arith) (omega arith) (omega arith))
+    (c .before .before .write-sides .ensures)
 
 pub write-file-spec : {M : Type 1} → statement M
 write-file-spec =

@@ -50,7 +50,8 @@ returns-2 c =
     let at-bench-ended = at-controller-ended .before in
     let at-enum-told = at-bench-ended .before .before .before in
     let entry = at-enum-told .before .before .before in
-    wrote-as (told-both (entry .args .a) (at-enum-told .enum-told .given .1) (at-bench-ended .bench-ended .ensures) (at-controller-ended .controller-ended .ensures)) (c .before .before .write-both .ensures)
+    wrote-as (told-both (entry .args .a) (at-enum-told .enum-told .given .1) (at-bench-ended .bench-ended .ensures) (at-controller-ended .controller-ended .ensures))
+    (c .before .before .write-both .ensures)
 
 pub write-sides-spec : {M : Type 1} → statement M
 write-sides-spec =

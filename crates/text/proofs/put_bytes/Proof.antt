@@ -33,9 +33,9 @@ loop-less c = omega arith
 
 loop-again : tie.Need-loop-again Inv-loop μ-loop
 loop-again c =
-    let at-before = c .before .before in
-    let s = at-before .before in
-    let l = at-before .loop in
+    let at-loop = c .before .before in
+    let s = at-loop .before in
+    let l = at-loop .loop in
     word-more (s .args .at) (l .i) (s .args .word .now) (s .args .out .now) (l .out) (l .inv) (omega arith)
 
 add-result : tie.Need-add-result Inv-loop μ-loop

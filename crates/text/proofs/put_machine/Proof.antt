@@ -47,7 +47,9 @@ returns c =
     let at-put-ended = at-put-numbered .before .before .before .before .before in
     let at-put-bytes2 = at-put-ended .before .before .before .before in
     let at-put-bytes = at-put-bytes2 .before .before .before .before .before in
-    wrote-then (wrote-then (wrote-then (wrote-then (at-put-bytes .put-bytes .ensures) (at-put-bytes2 .put-bytes2 .ensures)) (at-put-ended .put-ended .ensures)) (at-put-numbered .put-numbered .ensures)) (c .before .before .put-bytes3 .ensures)
+    wrote-then
+    (wrote-then (wrote-then (wrote-then (at-put-bytes .put-bytes .ensures) (at-put-bytes2 .put-bytes2 .ensures)) (at-put-ended .put-ended .ensures)) (at-put-numbered .put-numbered .ensures))
+    (c .before .before .put-bytes3 .ensures)
 
 pub put-machine-spec : {M : Type 1} → statement M
 put-machine-spec =

@@ -29,7 +29,8 @@ returns c =
     let at-if1 = at-put-bytes .before .before .before in
     let at-magnitude = at-if1 .before in
     let s = c .before .before .before .before .before .before .before .before .before .before .before .before in
-    wrote-as (signed-minus (s .args .v) _ (at-magnitude .magnitude .ensures ∙ ap natAbs (toZ-ofZ (s .fits .v))) (sign-of (s .args .v) _ (s .fits .v) (at-if1 .if1 .taken))) (wrote-then (at-put-bytes .put-bytes .ensures) (c .before .before .put-decimal .ensures))
+    wrote-as (signed-minus (s .args .v) _ (at-magnitude .magnitude .ensures ∙ ap natAbs (toZ-ofZ (s .fits .v))) (sign-of (s .args .v) _ (s .fits .v) (at-if1 .if1 .taken)))
+    (wrote-then (at-put-bytes .put-bytes .ensures) (c .before .before .put-decimal .ensures))
 
 put-decimal-requires-2 : tie.Need-put-decimal-requires-2
 put-decimal-requires-2 c κs = search needs
@@ -42,7 +43,8 @@ returns-2 c =
     let at-if1 = c .before .before .before .before in
     let at-magnitude = at-if1 .before in
     let s = c .before .before .before .before .before .before .before in
-    wrote-as (signed-plus (s .args .v) _ (at-magnitude .magnitude .ensures ∙ ap natAbs (toZ-ofZ (s .fits .v))) (sign-of (s .args .v) _ (s .fits .v) (at-if1 .if1 .left))) (c .before .before .put-decimal2 .ensures)
+    wrote-as (signed-plus (s .args .v) _ (at-magnitude .magnitude .ensures ∙ ap natAbs (toZ-ofZ (s .fits .v))) (sign-of (s .args .v) _ (s .fits .v) (at-if1 .if1 .left)))
+    (c .before .before .put-decimal2 .ensures)
 
 pub put-signed-spec : {M : Type 1} → statement M
 put-signed-spec =

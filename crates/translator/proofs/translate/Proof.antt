@@ -40,7 +40,9 @@ returns-2 c =
     let at-enum-told = at-translate-loaded .before .before .before .before .before .before .before in
     let at-load = at-enum-told .before .before in
     let entry = entry-before-load at-load in
-    let F = answer-accepted (entry .args .file .now) (entry .args .out .now) (at-load .load .ensures .0) (at-enum-told .enum-told .given .1) (record { answer = at-translate-loaded .translate-loaded .ensures .0; output = at-translate-loaded .translate-loaded .ensures .1 }) in (F .answer, F .output)
+    let F = answer-accepted (entry .args .file .now) (entry .args .out .now) (at-load .load .ensures .0) (at-enum-told .enum-told .given .1)
+    (record { answer = at-translate-loaded .translate-loaded .ensures .0; output = at-translate-loaded .translate-loaded .ensures .1 }) in
+    (F .answer, F .output)
 
 pub translate-spec : {M : Type 1} → statement M
 translate-spec =

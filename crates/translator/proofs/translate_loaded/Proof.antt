@@ -20,14 +20,15 @@ returns c =
 returns-2 : tie.Need-returns-2
 returns-2 c =
     let entry = c .before .before .before .before .before in
-    let F = answer-16 (entry .args .file .now) (entry .args .out .now) (c .before .before .file-size .ensures) (omega (arith, c .before .if1 .left)) (c .if2 .taken) in (F .answer, F .output)
+    let F = answer-16 (entry .args .file .now) (entry .args .out .now) (c .before .before .file-size .ensures) (omega (arith, c .before .if1 .left)) (c .if2 .taken) in
+    (F .answer, F .output)
 
 put-file-requires : tie.Need-put-file-requires
 put-file-requires c κs =
-    let at-before = c .before .before in
-    let at-file-size = at-before .before in
+    let at-if1 = c .before .before in
+    let at-file-size = at-if1 .before in
     let entry = entry-before-file-size at-file-size in
-    (entry .pre, answer-room (entry .args .file .now) (entry .args .out .now) (at-file-size .file-size .ensures) (omega (arith, at-before .if1 .left)) (omega (arith, c .before .if2 .left)))
+    (entry .pre, answer-room (entry .args .file .now) (entry .args .out .now) (at-file-size .file-size .ensures) (omega (arith, at-if1 .if1 .left)) (omega (arith, c .before .if2 .left)))
 
 same-length : tie.Need-same-length
 same-length c = search needs
@@ -38,7 +39,9 @@ returns-3 c =
     let at-if1 = at-if2 .before in
     let at-file-size = at-if1 .before in
     let entry = entry-before-file-size at-file-size in
-    let F = answer-written (entry .args .file .now) (entry .args .out .now) (at-file-size .file-size .ensures) (omega (arith, at-if1 .if1 .left)) (omega (arith, at-if2 .if2 .left)) (c .before .before .put-file .ensures) in (F .answer, F .output)
+    let F = answer-written (entry .args .file .now) (entry .args .out .now) (at-file-size .file-size .ensures) (omega (arith, at-if1 .if1 .left)) (omega (arith, at-if2 .if2 .left))
+    (c .before .before .put-file .ensures) in
+    (F .answer, F .output)
 
 pub translate-loaded-spec : {M : Type 1} → statement M
 translate-loaded-spec =

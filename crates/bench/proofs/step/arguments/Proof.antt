@@ -32,21 +32,21 @@ byte-number-requires c κs = tt
 
 add-from : tie.Need-add-from Inv-loop μ-loop
 add-from c =
-    let at-before = c .before .before in
-    let at-loop = at-before .before in
-    omega (arith, value-there (at-loop .loop .inv) (at-before .loop-test .taken) (c .byte-number .ensures .0))
+    let at-loop-test = c .before .before in
+    let at-loop = at-loop-test .before in
+    omega (arith, value-there (at-loop .loop .inv) (at-loop-test .loop-test .taken) (c .byte-number .ensures .0))
 
 mul-vars : tie.Need-mul-vars Inv-loop μ-loop
 mul-vars c =
-    let at-before = c .before .before in
-    let at-loop = at-before .before in
-    let h = value-there (at-loop .loop .inv) (at-before .loop-test .taken) (c .byte-number .ensures .0) in search needs
+    let at-loop-test = c .before .before in
+    let at-loop = at-loop-test .before in
+    let h = value-there (at-loop .loop .inv) (at-loop-test .loop-test .taken) (c .byte-number .ensures .0) in search needs
 
 shared-slice-copy-out-vars : tie.Need-shared-slice-copy-out-vars Inv-loop μ-loop
 shared-slice-copy-out-vars c =
-    let at-before = c .before .before in
-    let at-loop = at-before .before in
-    value-there (at-loop .loop .inv) (at-before .loop-test .taken) (c .byte-number .ensures .0)
+    let at-loop-test = c .before .before in
+    let at-loop = at-loop-test .before in
+    value-there (at-loop .loop .inv) (at-loop-test .loop-test .taken) (c .byte-number .ensures .0)
 
 mul-t17 : tie.Need-mul-t17 Inv-loop μ-loop
 mul-t17 c =

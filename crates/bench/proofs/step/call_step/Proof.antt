@@ -83,7 +83,8 @@ arguments-requires c κs =
     let at-byte-number = at-push .before .before .before .before .before .before .before .before .before .before in
     let at-variables = at-byte-number .before .before in
     let entry = at-variables .before .before in
-    call-arguments (entry .pre .0) (entry .pre .1 .0) (entry .pre .1 .1 .0) (at-variables .variables .ensures) (at-byte-number .byte-number .ensures .0) (entry .pre .1 .1 .1 .1) (at-push .push .ensures)
+    call-arguments (entry .pre .0) (entry .pre .1 .0) (entry .pre .1 .1 .0) (at-variables .variables .ensures) (at-byte-number .byte-number .ensures .0) (entry .pre .1 .1 .1 .1)
+    (at-push .push .ensures)
 
 clear-requires : tie.Need-clear-requires
 clear-requires c κs =
@@ -91,7 +92,8 @@ clear-requires c κs =
     let at-byte-number2 = at-push .before .before .before .before .before .before .before .before in
     let at-byte-number = at-byte-number2 .before .before in
     let entry = entry-before-byte-number at-byte-number in
-    call-clear (entry .pre .0) (entry .pre .1 .0) (entry .pre .1 .1 .0) (at-push .push .last .0) (at-byte-number .byte-number .ensures .0) (at-byte-number2 .byte-number2 .ensures .0) (c .before .arguments .ensures)
+    call-clear (entry .pre .0) (entry .pre .1 .0) (entry .pre .1 .1 .0) (at-push .push .last .0) (at-byte-number .byte-number .ensures .0)
+    (at-byte-number2 .byte-number2 .ensures .0) (c .before .arguments .ensures)
 
 same-length : tie.Need-same-length
 same-length c = search needs
@@ -104,7 +106,9 @@ returns c =
     let at-byte-number = at-byte-number2 .before .before in
     let at-variables = at-byte-number .before .before in
     let entry = at-variables .before .before in
-    call-done (entry .pre .0) (entry .pre .1 .0) (entry .pre .1 .1 .0) (entry .pre .1 .1 .1 .1) (at-variables .variables .ensures) (at-push .push .ensures) (at-byte-number .byte-number .ensures .0) (at-byte-number2 .byte-number2 .ensures .0) (c .before .before .arguments .ensures) (c .clear .ensures) (at-offset-number .offset-number .ensures) refl
+    call-done (entry .pre .0) (entry .pre .1 .0) (entry .pre .1 .1 .0) (entry .pre .1 .1 .1 .1) (at-variables .variables .ensures) (at-push .push .ensures)
+    (at-byte-number .byte-number .ensures .0) (at-byte-number2 .byte-number2 .ensures .0) (c .before .before .arguments .ensures) (c .clear .ensures)
+    (at-offset-number .offset-number .ensures) refl
 
 pub call-step-spec : {M : Type 1} → statement M
 call-step-spec =

@@ -24,43 +24,63 @@ head-at-requires c κs =
 variables-requires : tie.Need-variables-requires
 variables-requires c κs =
     let entry = c .before .before in
-    head-small (entry .pre .0) (entry .pre .1 .0) (caught-below (entry .pre .0) (entry .pre .1 .0) (entry .pre .1 .1 .0) (entry .pre .1 .1 .1 .1 .0) (entry .pre .1 .1 .1 .1 .1) (entry .pre .1 .1 .1 .1 .2)) (c .head-at .ensures)
+    head-small (entry .pre .0) (entry .pre .1 .0)
+    (caught-below (entry .pre .0) (entry .pre .1 .0) (entry .pre .1 .1 .0) (entry .pre .1 .1 .1 .1 .0) (entry .pre .1 .1 .1 .1 .1) (entry .pre .1 .1 .1 .1 .2))
+    (c .head-at .ensures)
 
 mul-from : tie.Need-mul-from
 mul-from c =
     let entry = entry-before-variables c in
-    let F = frame-safe (entry .pre .0) (entry .pre .1 .0) (caught-below (entry .pre .0) (entry .pre .1 .0) (entry .pre .1 .1 .0) (entry .pre .1 .1 .1 .1 .0) (entry .pre .1 .1 .1 .1 .1) (entry .pre .1 .1 .1 .1 .2)) (c .before .head-at .ensures) (c .variables .ensures) in omega (arith, F .low)
+    let F = frame-safe (entry .pre .0) (entry .pre .1 .0)
+    (caught-below (entry .pre .0) (entry .pre .1 .0) (entry .pre .1 .1 .0) (entry .pre .1 .1 .1 .1 .0) (entry .pre .1 .1 .1 .1 .1) (entry .pre .1 .1 .1 .1 .2))
+    (c .before .head-at .ensures) (c .variables .ensures) in
+    omega (arith, F .low)
 
 add-from : tie.Need-add-from
 add-from c =
     let entry = entry-before-variables c in
-    let F = frame-safe (entry .pre .0) (entry .pre .1 .0) (caught-below (entry .pre .0) (entry .pre .1 .0) (entry .pre .1 .1 .0) (entry .pre .1 .1 .1 .1 .0) (entry .pre .1 .1 .1 .1 .1) (entry .pre .1 .1 .1 .1 .2)) (c .before .head-at .ensures) (c .variables .ensures) in omega (arith, F .low)
+    let F = frame-safe (entry .pre .0) (entry .pre .1 .0)
+    (caught-below (entry .pre .0) (entry .pre .1 .0) (entry .pre .1 .1 .0) (entry .pre .1 .1 .1 .1 .0) (entry .pre .1 .1 .1 .1 .1) (entry .pre .1 .1 .1 .1 .2))
+    (c .before .head-at .ensures) (c .variables .ensures) in
+    omega (arith, F .low)
 
 copy-requires : tie.Need-copy-requires
 copy-requires c κs =
     let entry = c .before .before .before .before in
-    let F = frame-safe (entry .pre .0) (entry .pre .1 .0) (caught-below (entry .pre .0) (entry .pre .1 .0) (entry .pre .1 .1 .0) (entry .pre .1 .1 .1 .1 .0) (entry .pre .1 .1 .1 .1 .1) (entry .pre .1 .1 .1 .1 .2)) (c .before .before .head-at .ensures) (c .before .variables .ensures) in (F .there, omega (arith, F .few, F .long))
+    let F = frame-safe (entry .pre .0) (entry .pre .1 .0)
+    (caught-below (entry .pre .0) (entry .pre .1 .0) (entry .pre .1 .1 .0) (entry .pre .1 .1 .1 .1 .0) (entry .pre .1 .1 .1 .1 .1) (entry .pre .1 .1 .1 .1 .2))
+    (c .before .before .head-at .ensures) (c .before .variables .ensures) in
+    (F .there, omega (arith, F .few, F .long))
 
 mul-i : tie.Need-mul-i
 mul-i c =
-    let at-before = c .before .before in
-    let at-head-at = at-before .before in
+    let at-variables = c .before .before in
+    let at-head-at = at-variables .before in
     let entry = at-head-at .before .before in
-    let F = frame-safe (entry .pre .0) (entry .pre .1 .0) (caught-below (entry .pre .0) (entry .pre .1 .0) (entry .pre .1 .1 .0) (entry .pre .1 .1 .1 .1 .0) (entry .pre .1 .1 .1 .1 .1) (entry .pre .1 .1 .1 .1 .2)) (at-head-at .head-at .ensures) (at-before .variables .ensures) in omega (arith, F .table)
+    let F = frame-safe (entry .pre .0) (entry .pre .1 .0)
+    (caught-below (entry .pre .0) (entry .pre .1 .0) (entry .pre .1 .1 .0) (entry .pre .1 .1 .1 .1 .0) (entry .pre .1 .1 .1 .1 .1) (entry .pre .1 .1 .1 .1 .2))
+    (at-head-at .head-at .ensures) (at-variables .variables .ensures) in
+    omega (arith, F .table)
 
 add-i : tie.Need-add-i
 add-i c =
-    let at-before = c .before .before in
-    let at-head-at = at-before .before in
+    let at-variables = c .before .before in
+    let at-head-at = at-variables .before in
     let entry = at-head-at .before .before in
-    let F = frame-safe (entry .pre .0) (entry .pre .1 .0) (caught-below (entry .pre .0) (entry .pre .1 .0) (entry .pre .1 .1 .0) (entry .pre .1 .1 .1 .1 .0) (entry .pre .1 .1 .1 .1 .1) (entry .pre .1 .1 .1 .1 .2)) (at-head-at .head-at .ensures) (at-before .variables .ensures) in omega (arith, F .table)
+    let F = frame-safe (entry .pre .0) (entry .pre .1 .0)
+    (caught-below (entry .pre .0) (entry .pre .1 .0) (entry .pre .1 .1 .0) (entry .pre .1 .1 .1 .1 .0) (entry .pre .1 .1 .1 .1 .1) (entry .pre .1 .1 .1 .1 .2))
+    (at-head-at .head-at .ensures) (at-variables .variables .ensures) in
+    omega (arith, F .table)
 
 element-copy-out-byte-number : tie.Need-element-copy-out-byte-number
 element-copy-out-byte-number c =
-    let at-before = c .before .before in
-    let at-head-at = at-before .before in
+    let at-variables = c .before .before in
+    let at-head-at = at-variables .before in
     let entry = at-head-at .before .before in
-    let F = frame-safe (entry .pre .0) (entry .pre .1 .0) (caught-below (entry .pre .0) (entry .pre .1 .0) (entry .pre .1 .1 .0) (entry .pre .1 .1 .1 .1 .0) (entry .pre .1 .1 .1 .1 .1) (entry .pre .1 .1 .1 .1 .2)) (at-head-at .head-at .ensures) (at-before .variables .ensures) in F .table
+    let F = frame-safe (entry .pre .0) (entry .pre .1 .0)
+    (caught-below (entry .pre .0) (entry .pre .1 .0) (entry .pre .1 .1 .0) (entry .pre .1 .1 .1 .1 .0) (entry .pre .1 .1 .1 .1 .1) (entry .pre .1 .1 .1 .1 .2))
+    (at-head-at .head-at .ensures) (at-variables .variables .ensures) in
+    F .table
 
 byte-number-requires : tie.Need-byte-number-requires
 byte-number-requires c κs = search needs
@@ -70,14 +90,20 @@ mul-offset-number c =
     let at-variables = variables-before-byte-number c in
     let at-head-at = at-variables .before in
     let entry = at-head-at .before .before in
-    let F = frame-safe (entry .pre .0) (entry .pre .1 .0) (caught-below (entry .pre .0) (entry .pre .1 .0) (entry .pre .1 .1 .0) (entry .pre .1 .1 .1 .1 .0) (entry .pre .1 .1 .1 .1 .1) (entry .pre .1 .1 .1 .1 .2)) (at-head-at .head-at .ensures) (at-variables .variables .ensures) in omega (arith, F .table)
+    let F = frame-safe (entry .pre .0) (entry .pre .1 .0)
+    (caught-below (entry .pre .0) (entry .pre .1 .0) (entry .pre .1 .1 .0) (entry .pre .1 .1 .1 .1 .0) (entry .pre .1 .1 .1 .1 .1) (entry .pre .1 .1 .1 .1 .2))
+    (at-head-at .head-at .ensures) (at-variables .variables .ensures) in
+    omega (arith, F .table)
 
 element-copy-out-offset-number : tie.Need-element-copy-out-offset-number
 element-copy-out-offset-number c =
     let at-variables = variables-before-byte-number c in
     let at-head-at = at-variables .before in
     let entry = at-head-at .before .before in
-    let F = frame-safe (entry .pre .0) (entry .pre .1 .0) (caught-below (entry .pre .0) (entry .pre .1 .0) (entry .pre .1 .1 .0) (entry .pre .1 .1 .1 .1 .0) (entry .pre .1 .1 .1 .1 .1) (entry .pre .1 .1 .1 .1 .2)) (at-head-at .head-at .ensures) (at-variables .variables .ensures) in F .table
+    let F = frame-safe (entry .pre .0) (entry .pre .1 .0)
+    (caught-below (entry .pre .0) (entry .pre .1 .0) (entry .pre .1 .1 .0) (entry .pre .1 .1 .1 .1 .0) (entry .pre .1 .1 .1 .1 .1) (entry .pre .1 .1 .1 .1 .2))
+    (at-head-at .head-at .ensures) (at-variables .variables .ensures) in
+    F .table
 
 offset-number-requires : tie.Need-offset-number-requires
 offset-number-requires c κs = search needs
@@ -92,7 +118,9 @@ returns c =
     let at-variables = at-copy .before .before in
     let at-head-at = at-variables .before in
     let entry = at-head-at .before .before in
-    caught-done (entry .pre .0) (entry .pre .1 .0) (entry .pre .1 .1 .0) (entry .pre .1 .1 .1 .1 .0) (entry .pre .1 .1 .1 .1 .1) (entry .pre .1 .1 .1 .1 .2) (at-head-at .head-at .ensures) (at-variables .variables .ensures) (at-copy .copy .ensures) (at-byte-number .byte-number .ensures .0) (c .before .offset-number .ensures) refl
+    caught-done (entry .pre .0) (entry .pre .1 .0) (entry .pre .1 .1 .0) (entry .pre .1 .1 .1 .1 .0) (entry .pre .1 .1 .1 .1 .1) (entry .pre .1 .1 .1 .1 .2)
+    (at-head-at .head-at .ensures) (at-variables .variables .ensures) (at-copy .copy .ensures) (at-byte-number .byte-number .ensures .0) (c .before .offset-number .ensures)
+    refl
 
 pub caught-step-spec : {M : Type 1} → statement M
 caught-step-spec =

@@ -28,7 +28,8 @@ offset-number-requires c κs = search needs
 returns : tie.Need-returns
 returns c =
     let entry = c .before .before .before .before in
-    λ i. record { function = entry .args .r .function; handler = (c .before .before .byte-number .ensures .0) i; at = (c .offset-number .ensures) i; waiting = entry .args .r .waiting; extras = entry .args .k }
+    λ i. record
+    { function = entry .args .r .function; handler = (c .before .before .byte-number .ensures .0) i; at = (c .offset-number .ensures) i; waiting = entry .args .r .waiting; extras = entry .args .k }
 
 pub entered-spec : {M : Type 1} → statement M
 entered-spec =

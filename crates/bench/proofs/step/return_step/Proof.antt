@@ -46,35 +46,42 @@ add-from c = search needs
 
 copy-requires : tie.Need-copy-requires
 copy-requires c κs =
-    let at-before = c .before .before in
-    let at-if1 = at-before .before in
+    let at-head-at = c .before .before in
+    let at-if1 = at-head-at .before in
     let entry = entry-before-else1 at-if1 in
-    let F = frame-safe (entry .pre .0) (entry .pre .1 .0) (last-below (entry .pre .0) (entry .pre .1 .0) (at-if1 .if1 .left)) (at-before .head-at .ensures) (c .before .variables .ensures) in (F .there, omega (arith, F .few, F .long))
+    let F = frame-safe (entry .pre .0) (entry .pre .1 .0) (last-below (entry .pre .0) (entry .pre .1 .0) (at-if1 .if1 .left)) (at-head-at .head-at .ensures)
+    (c .before .variables .ensures) in
+    (F .there, omega (arith, F .few, F .long))
 
 mul-v-2 : tie.Need-mul-v-2
 mul-v-2 c =
-    let at-before = c .before .before in
-    let at-head-at = at-before .before in
+    let at-variables = c .before .before in
+    let at-head-at = at-variables .before in
     let at-if1 = at-head-at .before in
     let entry = entry-before-else1 at-if1 in
-    let F = frame-safe (entry .pre .0) (entry .pre .1 .0) (last-below (entry .pre .0) (entry .pre .1 .0) (at-if1 .if1 .left)) (at-head-at .head-at .ensures) (at-before .variables .ensures) in omega (arith, F .result)
+    let F = frame-safe (entry .pre .0) (entry .pre .1 .0) (last-below (entry .pre .0) (entry .pre .1 .0) (at-if1 .if1 .left)) (at-head-at .head-at .ensures)
+    (at-variables .variables .ensures) in
+    omega (arith, F .result)
 
 element-set-from-v : tie.Need-element-set-from-v
 element-set-from-v c =
-    let at-before = c .before .before in
-    let at-head-at = at-before .before in
+    let at-variables = c .before .before in
+    let at-head-at = at-variables .before in
     let at-if1 = at-head-at .before in
     let entry = entry-before-else1 at-if1 in
-    let F = frame-safe (entry .pre .0) (entry .pre .1 .0) (last-below (entry .pre .0) (entry .pre .1 .0) (at-if1 .if1 .left)) (at-head-at .head-at .ensures) (at-before .variables .ensures) in F .result
+    let F = frame-safe (entry .pre .0) (entry .pre .1 .0) (last-below (entry .pre .0) (entry .pre .1 .0) (at-if1 .if1 .left)) (at-head-at .head-at .ensures)
+    (at-variables .variables .ensures) in
+    F .result
 
 returns-2 : tie.Need-returns-2
 returns-2 c =
-    let at-before = c .before .before in
-    let at-head-at = at-before .before in
+    let at-variables = c .before .before in
+    let at-head-at = at-variables .before in
     let at-if1 = at-head-at .before in
     let at-v = at-if1 .before in
     let entry = at-v .before .before in
-    return-frame (entry .pre .0) (entry .pre .1 .0) (entry .pre .1 .1) (toZ-ofZ {w = w32} (record { sfits = at-v .v .given })) refl (at-if1 .if1 .left) (at-head-at .head-at .ensures) (at-before .variables .ensures) (c .copy .ensures)
+    return-frame (entry .pre .0) (entry .pre .1 .0) (entry .pre .1 .1) (toZ-ofZ {w = w32} (record { sfits = at-v .v .given })) refl (at-if1 .if1 .left)
+    (at-head-at .head-at .ensures) (at-variables .variables .ensures) (c .copy .ensures)
 
 pub return-step-spec : {M : Type 1} → statement M
 return-step-spec =

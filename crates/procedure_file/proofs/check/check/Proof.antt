@@ -20,11 +20,12 @@ enum-told c = search needs
 
 names-checked-requires : tie.Need-names-checked-requires
 names-checked-requires c κs =
-    let at-before = c .before .before in
-    let at-if1 = at-before .before in
+    let at-layout-end = c .before .before in
+    let at-if1 = at-layout-end .before in
     let at-shared-slice-known = at-if1 .before in
     let entry = at-shared-slice-known .before in
-    check-laid (entry .args .file .now) (at-if1 .if1 .left) (λ i. omega (arith, at-shared-slice-known .shared-slice-known .given i)) _ (sym (at-before .layout-end .ensures) ∙ c .enum-told .given .1)
+    check-laid (entry .args .file .now) (at-if1 .if1 .left) (λ i. omega (arith, at-shared-slice-known .shared-slice-known .given i)) _
+    (sym (at-layout-end .layout-end .ensures) ∙ c .enum-told .given .1)
 
 returns-2 : tie.Need-returns-2
 returns-2 c =
@@ -40,7 +41,8 @@ returns-3 c =
     let at-if1 = at-layout-end .before in
     let at-shared-slice-known = at-if1 .before in
     let entry = at-shared-slice-known .before in
-    c .names-checked .ensures ∙ check-named (entry .args .file .now) (at-if1 .if1 .left) (λ i. omega (arith, at-shared-slice-known .shared-slice-known .given i)) _ (sym (at-layout-end .layout-end .ensures) ∙ c .before .enum-told .given .1)
+    c .names-checked .ensures ∙ check-named (entry .args .file .now) (at-if1 .if1 .left) (λ i. omega (arith, at-shared-slice-known .shared-slice-known .given i)) _
+    (sym (at-layout-end .layout-end .ensures) ∙ c .before .enum-told .given .1)
 
 pub check-spec : {M : Type 1} → statement M
 check-spec =

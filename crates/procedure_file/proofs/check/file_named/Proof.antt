@@ -32,35 +32,45 @@ shared-slice-read-own c = search needs
 cast-own : tie.Need-cast-own Inv-loop μ-loop
 cast-own c =
     let entry = c .before .before .before .before .before .before .before .before .before in
-    let r = (one-room (entry .args .file .now) (entry .args .starts .now) (entry .args .handlers .now) (entry .args .params .now) (entry .args .locals .now) (entry .args .blocks .now) (entry .pre) (c .before .before .loop .f) (c .before .loop-test .taken)) in omega (arith, r .1)
+    let r = (one-room (entry .args .file .now) (entry .args .starts .now) (entry .args .handlers .now) (entry .args .params .now) (entry .args .locals .now) (entry .args .blocks
+    .now) (entry .pre) (c .before .before .loop .f) (c .before .loop-test .taken)) in
+    omega (arith, r .1)
 
 shared-slice-read-others : tie.Need-shared-slice-read-others Inv-loop μ-loop
 shared-slice-read-others c =
-    let at-before = c .before .before in
-    let at-loop = at-before .before in
+    let at-loop-test = c .before .before in
+    let at-loop = at-loop-test .before in
     let entry = entry-before-at-loop at-loop in
-    let r = (one-room (entry .args .file .now) (entry .args .starts .now) (entry .args .handlers .now) (entry .args .params .now) (entry .args .locals .now) (entry .args .blocks .now) (entry .pre) (at-loop .loop .f) (at-before .loop-test .taken)) in omega (arith, r .0, entry .pre .localsLong)
+    let r = (one-room (entry .args .file .now) (entry .args .starts .now) (entry .args .handlers .now) (entry .args .params .now) (entry .args .locals .now) (entry .args .blocks
+    .now) (entry .pre) (at-loop .loop .f) (at-loop-test .loop-test .taken)) in
+    omega (arith, r .0, entry .pre .localsLong)
 
 cast-others : tie.Need-cast-others Inv-loop μ-loop
 cast-others c =
-    let at-before = c .before .before in
-    let at-loop = at-before .before in
+    let at-loop-test = c .before .before in
+    let at-loop = at-loop-test .before in
     let entry = entry-before-at-loop at-loop in
-    let r = (one-room (entry .args .file .now) (entry .args .starts .now) (entry .args .handlers .now) (entry .args .params .now) (entry .args .locals .now) (entry .args .blocks .now) (entry .pre) (at-loop .loop .f) (at-before .loop-test .taken)) in omega (arith, r .2)
+    let r = (one-room (entry .args .file .now) (entry .args .starts .now) (entry .args .handlers .now) (entry .args .params .now) (entry .args .locals .now) (entry .args .blocks
+    .now) (entry .pre) (at-loop .loop .f) (at-loop-test .loop-test .taken)) in
+    omega (arith, r .2)
 
 add-variables : tie.Need-add-variables Inv-loop μ-loop
 add-variables c =
-    let at-before = c .before .before in
-    let at-loop = at-before .before in
+    let at-loop-test = c .before .before in
+    let at-loop = at-loop-test .before in
     let entry = entry-before-at-loop at-loop in
-    let r = (one-room (entry .args .file .now) (entry .args .starts .now) (entry .args .handlers .now) (entry .args .params .now) (entry .args .locals .now) (entry .args .blocks .now) (entry .pre) (at-loop .loop .f) (at-before .loop-test .taken)) in omega (arith, r .1, r .2)
+    let r = (one-room (entry .args .file .now) (entry .args .starts .now) (entry .args .handlers .now) (entry .args .params .now) (entry .args .locals .now) (entry .args .blocks
+    .now) (entry .pre) (at-loop .loop .f) (at-loop-test .loop-test .taken)) in
+    omega (arith, r .1, r .2)
 
 shared-slice-read-labels : tie.Need-shared-slice-read-labels Inv-loop μ-loop
 shared-slice-read-labels c =
     let at-loop-test = in-loop-before-shared-slice-known9 c in
     let at-loop = at-loop-test .before in
     let entry = entry-before-at-loop at-loop in
-    let r = (one-room (entry .args .file .now) (entry .args .starts .now) (entry .args .handlers .now) (entry .args .params .now) (entry .args .locals .now) (entry .args .blocks .now) (entry .pre) (at-loop .loop .f) (at-loop-test .loop-test .taken)) in omega (arith, r .0, entry .pre .blocksLong)
+    let r = (one-room (entry .args .file .now) (entry .args .starts .now) (entry .args .handlers .now) (entry .args .params .now) (entry .args .locals .now) (entry .args .blocks
+    .now) (entry .pre) (at-loop .loop .f) (at-loop-test .loop-test .taken)) in
+    omega (arith, r .0, entry .pre .blocksLong)
 
 cast-labels : tie.Need-cast-labels Inv-loop μ-loop
 cast-labels c =
@@ -72,7 +82,8 @@ function-named-requires c κs =
     let at-loop-test = in-loop-before-shared-slice-known9 c in
     let at-loop = at-loop-test .before in
     let entry = entry-before-at-loop at-loop in
-    naming-one (entry .args .file .now) (entry .args .starts .now) (entry .args .handlers .now) (entry .args .params .now) (entry .args .locals .now) (entry .args .blocks .now) (entry .pre) (at-loop .loop .f) (at-loop-test .loop-test .taken)
+    naming-one (entry .args .file .now) (entry .args .starts .now) (entry .args .handlers .now) (entry .args .params .now) (entry .args .locals .now) (entry .args .blocks .now)
+    (entry .pre) (at-loop .loop .f) (at-loop-test .loop-test .taken)
 
 enum-known-r : tie.Need-enum-known-r Inv-loop μ-loop
 enum-known-r c = search needs
@@ -84,7 +95,10 @@ returns c =
     let at-loop-test = at-function-named .before .before .before .before in
     let at-loop = at-loop-test .before in
     let entry = entry-before-at-loop at-loop in
-    function-wrong (entry .args .file .now) (entry .args .starts .now) (entry .args .handlers .now) (entry .args .params .now) (entry .args .locals .now) (entry .args .blocks .now) (entry .pre) (at-loop .loop .f) (at-loop-test .loop-test .taken) _ (at-r .r .given .0 .0) (at-function-named .function-named .ensures) (at-r .r .given .1) ∙ at-loop .loop .inv ∙ all-names (entry .args .file .now) (entry .args .starts .now) (entry .args .handlers .now) (entry .args .params .now) (entry .args .locals .now) (entry .args .blocks .now) (entry .pre)
+    function-wrong (entry .args .file .now) (entry .args .starts .now) (entry .args .handlers .now) (entry .args .params .now) (entry .args .locals .now) (entry .args .blocks .now)
+    (entry .pre) (at-loop .loop .f) (at-loop-test .loop-test .taken) _ (at-r .r .given .0 .0) (at-function-named .function-named .ensures) (at-r .r .given .1) ∙ at-loop .loop
+    .inv ∙ all-names (entry .args .file .now) (entry .args .starts .now) (entry .args .handlers .now) (entry .args .params .now) (entry .args .locals .now)
+    (entry .args .blocks .now) (entry .pre)
 
 enum-told : tie.Need-enum-told Inv-loop μ-loop
 enum-told c = search needs
@@ -94,7 +108,9 @@ add-f c =
     let at-loop-test = in-loop-before-enum-told c in
     let at-loop = at-loop-test .before in
     let entry = entry-before-at-loop at-loop in
-    let r = (one-room (entry .args .file .now) (entry .args .starts .now) (entry .args .handlers .now) (entry .args .params .now) (entry .args .locals .now) (entry .args .blocks .now) (entry .pre) (at-loop .loop .f) (at-loop-test .loop-test .taken)) in omega (arith, r .0)
+    let r = (one-room (entry .args .file .now) (entry .args .starts .now) (entry .args .handlers .now) (entry .args .params .now) (entry .args .locals .now) (entry .args .blocks
+    .now) (entry .pre) (at-loop .loop .f) (at-loop-test .loop-test .taken)) in
+    omega (arith, r .0)
 
 loop-less : tie.Need-loop-less Inv-loop μ-loop
 loop-less c = search needs
@@ -104,13 +120,16 @@ loop-again c =
     let at-loop-test = in-loop-before-enum-told c in
     let at-loop = at-loop-test .before in
     let entry = entry-before-at-loop at-loop in
-    function-right (entry .args .file .now) (entry .args .starts .now) (entry .args .handlers .now) (entry .args .params .now) (entry .args .locals .now) (entry .args .blocks .now) (entry .pre) (at-loop .loop .f) (at-loop-test .loop-test .taken) _ (c .before .before .function-named .ensures) (c .enum-told .given .1) ∙ at-loop .loop .inv
+    function-right (entry .args .file .now) (entry .args .starts .now) (entry .args .handlers .now) (entry .args .params .now) (entry .args .locals .now) (entry .args .blocks .now)
+    (entry .pre) (at-loop .loop .f) (at-loop-test .loop-test .taken) _ (c .before .before .function-named .ensures) (c .enum-told .given .1) ∙ at-loop .loop .inv
 
 returns-2 : tie.Need-returns-2 Inv-loop μ-loop
 returns-2 c =
     let at-loop = c .before in
     let entry = entry-before-at-loop at-loop in
-    functions-done (entry .args .file .now) (entry .args .starts .now) (entry .args .handlers .now) (entry .args .params .now) (entry .args .locals .now) (entry .args .blocks .now) (entry .pre) (at-loop .loop .f) (c .loop-test .left) ∙ at-loop .loop .inv ∙ all-names (entry .args .file .now) (entry .args .starts .now) (entry .args .handlers .now) (entry .args .params .now) (entry .args .locals .now) (entry .args .blocks .now) (entry .pre)
+    functions-done (entry .args .file .now) (entry .args .starts .now) (entry .args .handlers .now) (entry .args .params .now) (entry .args .locals .now) (entry .args .blocks .now)
+    (entry .pre) (at-loop .loop .f) (c .loop-test .left) ∙ at-loop .loop .inv ∙ all-names (entry .args .file .now) (entry .args .starts .now) (entry .args .handlers .now)
+    (entry .args .params .now) (entry .args .locals .now) (entry .args .blocks .now) (entry .pre)
 
 pub file-named-spec : {M : Type 1} → statement M
 file-named-spec =

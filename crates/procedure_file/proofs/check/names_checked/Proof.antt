@@ -55,7 +55,9 @@ file-named-requires : tie.Need-file-named-requires
 file-named-requires c κs =
     let at-fill = c .before .before .before .before .before .before .before .before .before .before in
     let entry = entry-before-fill at-fill in
-    naming-given (entry .args .file .now) _ _ _ _ _ _ (entry .pre) (at-fill .fill .ensures) (at-fill .fill .kept .1 .0 ∙ length-replicate {A = ℕ} 2048 0) (at-fill .fill .kept .1 .1 .0 ∙ length-replicate {A = ℕ} 2048 0) (at-fill .fill .kept .1 .1 .1 .0) (at-fill .fill .kept .1 .1 .1 .1 .0) (at-fill .fill .kept .1 .1 .1 .1 .1 .0)
+    naming-given (entry .args .file .now) _ _ _ _ _ _ (entry .pre) (at-fill .fill .ensures) (at-fill .fill .kept .1 .0 ∙ length-replicate {A = ℕ} 2048 0)
+    (at-fill .fill .kept .1 .1 .0 ∙ length-replicate {A = ℕ} 2048 0) (at-fill .fill .kept .1 .1 .1 .0) (at-fill .fill .kept .1 .1 .1 .1 .0)
+    (at-fill .fill .kept .1 .1 .1 .1 .1 .0)
 
 returns : tie.Need-returns
 returns c = search needs

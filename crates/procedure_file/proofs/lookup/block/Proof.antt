@@ -20,21 +20,30 @@ sub-result c =
     let at-place-of = place-of-before-known-told c in
     let at-shared-slice-known = at-place-of .before in
     let entry = at-shared-slice-known .before in
-    (stretch-some (entry .args .file .now) (entry .args .f) (entry .args .label) (λ i. omega (arith, at-shared-slice-known .shared-slice-known .given i)) _ _ (sym (at-place-of .place-of .ensures) ∙ c .before .from .given .1)) .order
+    (stretch-some (entry .args .file .now) (entry .args .f) (entry .args .label) (λ i. omega (
+      arith,
+      at-shared-slice-known .shared-slice-known .given i,
+    )) _ _ (sym (at-place-of .place-of .ensures) ∙ c .before .from .given .1)) .order
 
 part-result-start : tie.Need-part-result-start
 part-result-start c =
     let at-place-of = place-of-before-known-told c in
     let at-shared-slice-known = at-place-of .before in
     let entry = at-shared-slice-known .before in
-    (stretch-some (entry .args .file .now) (entry .args .f) (entry .args .label) (λ i. omega (arith, at-shared-slice-known .shared-slice-known .given i)) _ _ (sym (at-place-of .place-of .ensures) ∙ c .before .from .given .1)) .order
+    (stretch-some (entry .args .file .now) (entry .args .f) (entry .args .label) (λ i. omega (
+      arith,
+      at-shared-slice-known .shared-slice-known .given i,
+    )) _ _ (sym (at-place-of .place-of .ensures) ∙ c .before .from .given .1)) .order
 
 part-result-end : tie.Need-part-result-end
 part-result-end c =
     let at-place-of = place-of-before-known-told c in
     let at-shared-slice-known = at-place-of .before in
     let entry = at-shared-slice-known .before in
-    (stretch-some (entry .args .file .now) (entry .args .f) (entry .args .label) (λ i. omega (arith, at-shared-slice-known .shared-slice-known .given i)) _ _ (sym (at-place-of .place-of .ensures) ∙ c .before .from .given .1)) .inside
+    (stretch-some (entry .args .file .now) (entry .args .f) (entry .args .label) (λ i. omega (
+      arith,
+      at-shared-slice-known .shared-slice-known .given i,
+    )) _ _ (sym (at-place-of .place-of .ensures) ∙ c .before .from .given .1)) .inside
 
 enum-told : tie.Need-enum-told
 enum-told c = search needs
@@ -53,7 +62,10 @@ returns c =
     let at-place-of = c .before .before .before .before in
     let at-shared-slice-known = at-place-of .before in
     let entry = at-shared-slice-known .before in
-    (stretch-some (entry .args .file .now) (entry .args .f) (entry .args .label) (λ i. omega (arith, at-shared-slice-known .shared-slice-known .given i)) _ _ (sym (at-place-of .place-of .ensures) ∙ c .before .before .from .given .1)) .bytes
+    (stretch-some (entry .args .file .now) (entry .args .f) (entry .args .label) (λ i. omega (
+      arith,
+      at-shared-slice-known .shared-slice-known .given i,
+    )) _ _ (sym (at-place-of .place-of .ensures) ∙ c .before .before .from .given .1)) .bytes
 
 returns-2 : tie.Need-returns-2
 returns-2 c =

@@ -34,7 +34,8 @@ find-in-requires : tie.Need-find-in-requires
 find-in-requires c κs =
     let at-fill = c .before .before .before .before .before .before .before in
     let entry = at-fill .before .before .before .before .before .before .before in
-    finding-given (entry .args .file .now) _ _ _ _ _ _ (entry .pre) (at-fill .fill .ensures) (at-fill .fill .kept .1 .0 ∙ length-replicate {A = ℕ} 2048 0) (at-fill .fill .kept .1 .1 .1 .1 .1 .0)
+    finding-given (entry .args .file .now) _ _ _ _ _ _ (entry .pre) (at-fill .fill .ensures) (at-fill .fill .kept .1 .0 ∙ length-replicate {A = ℕ} 2048 0)
+    (at-fill .fill .kept .1 .1 .1 .1 .1 .0)
 
 returns : tie.Need-returns
 returns c = search needs

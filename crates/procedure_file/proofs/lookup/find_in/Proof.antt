@@ -37,42 +37,72 @@ shared-slice-read-if1 c =
     let at-number = c .before .before .before in
     let at-function-number = at-number .before .before in
     let entry = entry-before-function-number at-function-number in
-    omega (arith, find-function (entry .args .file .now) (entry .args .count) (entry .args .starts .now) (entry .args .blocks .now) (entry .pre) (entry .args .f) (entry .args .label) (at-number .number .given .0 .0 .0) (function-is (entry .args .f) (entry .args .count) (at-number .number .given .0 .0) (sym (at-function-number .function-number .ensures) ∙ at-number .number .given .1)), entry .pre .blocksLong)
+    omega (
+      arith,
+      find-function (entry .args .file .now) (entry .args .count) (entry .args .starts .now) (entry .args .blocks .now) (entry .pre) (entry .args .f) (entry .args
+          .label) (at-number .number .given .0 .0 .0) (function-is (entry .args .f) (entry .args .count) (at-number .number .given .0 .0) (sym
+          (at-function-number .function-number .ensures) ∙ at-number .number .given .1)),
+      entry .pre .blocksLong,
+    )
 
 returns : tie.Need-returns
 returns c =
     let at-number = c .before .before .before .before in
     let at-function-number = at-number .before .before in
     let entry = entry-before-function-number at-function-number in
-    find-label (entry .args .file .now) (entry .args .count) (entry .args .starts .now) (entry .args .blocks .now) (entry .pre) (entry .args .f) (entry .args .label) (at-number .number .given .0 .0 .0) (function-is (entry .args .f) (entry .args .count) (at-number .number .given .0 .0) (sym (at-function-number .function-number .ensures) ∙ at-number .number .given .1)) (c .if1 .taken)
+    find-label (entry .args .file .now) (entry .args .count) (entry .args .starts .now) (entry .args .blocks .now) (entry .pre) (entry .args .f) (entry .args .label)
+    (at-number .number .given .0 .0 .0)
+    (function-is (entry .args .f) (entry .args .count) (at-number .number .given .0 .0) (sym (at-function-number .function-number .ensures) ∙ at-number .number .given .1))
+    (c .if1 .taken)
 
 mul-slot : tie.Need-mul-slot
 mul-slot c =
     let at-number = number-before-else1 c in
     let at-function-number = at-number .before .before in
     let entry = entry-before-function-number at-function-number in
-    omega (arith, find-slot (entry .args .file .now) (entry .args .count) (entry .args .starts .now) (entry .args .blocks .now) (entry .pre) (entry .args .f) (entry .args .label) (at-number .number .given .0 .0 .0) (function-is (entry .args .f) (entry .args .count) (at-number .number .given .0 .0) (sym (at-function-number .function-number .ensures) ∙ at-number .number .given .1)) (c .if1 .left))
+    omega (
+      arith,
+      find-slot (entry .args .file .now) (entry .args .count) (entry .args .starts .now) (entry .args .blocks .now) (entry .pre) (entry .args .f) (entry .args .label)
+          (at-number .number .given .0 .0 .0) (function-is (entry .args .f) (entry .args .count) (at-number .number .given .0 .0) (sym (at-function-number .function-number .ensures)
+          ∙ at-number .number .given .1)) (c .if1 .left),
+    )
 
 add-slot : tie.Need-add-slot
 add-slot c =
     let at-number = number-before-else1 c in
     let at-function-number = at-number .before .before in
     let entry = entry-before-function-number at-function-number in
-    omega (arith, find-slot (entry .args .file .now) (entry .args .count) (entry .args .starts .now) (entry .args .blocks .now) (entry .pre) (entry .args .f) (entry .args .label) (at-number .number .given .0 .0 .0) (function-is (entry .args .f) (entry .args .count) (at-number .number .given .0 .0) (sym (at-function-number .function-number .ensures) ∙ at-number .number .given .1)) (c .if1 .left))
+    omega (
+      arith,
+      find-slot (entry .args .file .now) (entry .args .count) (entry .args .starts .now) (entry .args .blocks .now) (entry .pre) (entry .args .f) (entry .args .label)
+          (at-number .number .given .0 .0 .0) (function-is (entry .args .f) (entry .args .count) (at-number .number .given .0 .0) (sym (at-function-number .function-number .ensures)
+          ∙ at-number .number .given .1)) (c .if1 .left),
+    )
 
 mul-start : tie.Need-mul-start
 mul-start c =
     let at-number = number-before-else1 c in
     let at-function-number = at-number .before .before in
     let entry = entry-before-function-number at-function-number in
-    omega (arith, find-slot (entry .args .file .now) (entry .args .count) (entry .args .starts .now) (entry .args .blocks .now) (entry .pre) (entry .args .f) (entry .args .label) (at-number .number .given .0 .0 .0) (function-is (entry .args .f) (entry .args .count) (at-number .number .given .0 .0) (sym (at-function-number .function-number .ensures) ∙ at-number .number .given .1)) (c .if1 .left))
+    omega (
+      arith,
+      find-slot (entry .args .file .now) (entry .args .count) (entry .args .starts .now) (entry .args .blocks .now) (entry .pre) (entry .args .f) (entry .args .label)
+          (at-number .number .given .0 .0 .0) (function-is (entry .args .f) (entry .args .count) (at-number .number .given .0 .0) (sym (at-function-number .function-number .ensures)
+          ∙ at-number .number .given .1)) (c .if1 .left),
+    )
 
 shared-slice-read-start : tie.Need-shared-slice-read-start
 shared-slice-read-start c =
     let at-number = number-before-shared-slice-known5 c in
     let at-function-number = at-number .before .before in
     let entry = entry-before-function-number at-function-number in
-    omega (arith, find-slot (entry .args .file .now) (entry .args .count) (entry .args .starts .now) (entry .args .blocks .now) (entry .pre) (entry .args .f) (entry .args .label) (at-number .number .given .0 .0 .0) (function-is (entry .args .f) (entry .args .count) (at-number .number .given .0 .0) (sym (at-function-number .function-number .ensures) ∙ at-number .number .given .1)) (c .before .if1 .left), entry .pre .startsLong)
+    omega (
+      arith,
+      find-slot (entry .args .file .now) (entry .args .count) (entry .args .starts .now) (entry .args .blocks .now) (entry .pre) (entry .args .f) (entry .args .label)
+          (at-number .number .given .0 .0 .0) (function-is (entry .args .f) (entry .args .count) (at-number .number .given .0 .0) (sym (at-function-number .function-number .ensures)
+          ∙ at-number .number .given .1)) (c .before .if1 .left),
+      entry .pre .startsLong,
+    )
 
 cast-start : tie.Need-cast-start
 cast-start c =
@@ -89,7 +119,10 @@ returns-2 c =
     let at-number = number-before-else1 at-if1 in
     let at-function-number = at-number .before .before in
     let entry = entry-before-function-number at-function-number in
-    find-entry (entry .args .file .now) (entry .args .count) (entry .args .starts .now) (entry .args .blocks .now) (entry .pre) (entry .args .f) (entry .args .label) (at-number .number .given .0 .0 .0) (function-is (entry .args .f) (entry .args .count) (at-number .number .given .0 .0) (sym (at-function-number .function-number .ensures) ∙ at-number .number .given .1)) (at-if1 .if1 .left) _ (c .before .block-past .ensures) (c .if2 .taken)
+    find-entry (entry .args .file .now) (entry .args .count) (entry .args .starts .now) (entry .args .blocks .now) (entry .pre) (entry .args .f) (entry .args .label)
+    (at-number .number .given .0 .0 .0)
+    (function-is (entry .args .f) (entry .args .count) (at-number .number .given .0 .0) (sym (at-function-number .function-number .ensures) ∙ at-number .number .given .1))
+    (at-if1 .if1 .left) _ (c .before .block-past .ensures) (c .if2 .taken)
 
 sub-from : tie.Need-sub-from
 sub-from c =
@@ -97,12 +130,16 @@ sub-from c =
     let at-number = number-before-else1 at-if1 in
     let at-function-number = at-number .before .before in
     let entry = entry-before-function-number at-function-number in
-    find-positive (entry .args .file .now) (entry .args .count) (entry .args .starts .now) (entry .args .blocks .now) (entry .pre) (entry .args .f) (entry .args .label) (at-number .number .given .0 .0 .0) (function-is (entry .args .f) (entry .args .count) (at-number .number .given .0 .0) (sym (at-function-number .function-number .ensures) ∙ at-number .number .given .1)) (at-if1 .if1 .left) (c .if2 .left)
+    find-positive (entry .args .file .now) (entry .args .count) (entry .args .starts .now) (entry .args .blocks .now) (entry .pre) (entry .args .f) (entry .args .label)
+    (at-number .number .given .0 .0 .0)
+    (function-is (entry .args .f) (entry .args .count) (at-number .number .given .0 .0) (sym (at-function-number .function-number .ensures) ∙ at-number .number .given .1))
+    (at-if1 .if1 .left) (c .if2 .left)
 
 returns-3 : tie.Need-returns-3
 returns-3 c =
     let entry = c .before .before .before .before .before .before in
-    find-none (entry .args .file .now) (entry .args .count) (entry .args .starts .now) (entry .args .blocks .now) (entry .pre) (entry .args .f) (entry .args .label) (function-none (entry .args .f) (entry .args .count) (sym (c .before .before .function-number .ensures) ∙ c .enum-told .given .1))
+    find-none (entry .args .file .now) (entry .args .count) (entry .args .starts .now) (entry .args .blocks .now) (entry .pre) (entry .args .f) (entry .args .label)
+    (function-none (entry .args .f) (entry .args .count) (sym (c .before .before .function-number .ensures) ∙ c .enum-told .given .1))
 
 returns-4 : tie.Need-returns-4
 returns-4 c =
@@ -110,7 +147,10 @@ returns-4 c =
     let at-number = number-before-else1 at-if1 in
     let at-function-number = at-number .before .before in
     let entry = entry-before-function-number at-function-number in
-    find-labelled (entry .args .file .now) (entry .args .count) (entry .args .starts .now) (entry .args .blocks .now) (entry .pre) (entry .args .f) (entry .args .label) (at-number .number .given .0 .0 .0) (function-is (entry .args .f) (entry .args .count) (at-number .number .given .0 .0) (sym (at-function-number .function-number .ensures) ∙ at-number .number .given .1)) (at-if1 .if1 .left) _ (c .before .block-past .ensures) (c .if2 .left)
+    find-labelled (entry .args .file .now) (entry .args .count) (entry .args .starts .now) (entry .args .blocks .now) (entry .pre) (entry .args .f) (entry .args .label)
+    (at-number .number .given .0 .0 .0)
+    (function-is (entry .args .f) (entry .args .count) (at-number .number .given .0 .0) (sym (at-function-number .function-number .ensures) ∙ at-number .number .given .1))
+    (at-if1 .if1 .left) _ (c .before .block-past .ensures) (c .if2 .left)
 
 pub find-in-spec : {M : Type 1} → statement M
 find-in-spec =

@@ -16,10 +16,10 @@ enum-told c = search needs
 
 find-requires : tie.Need-find-requires
 find-requires c κs =
-    let at-before = c .before .before in
-    let at-shared-slice-known = at-before .before in
+    let at-check = c .before .before in
+    let at-shared-slice-known = at-check .before in
     let entry = at-shared-slice-known .before in
-    (accepted-laid (entry .args .file .now) (λ i. omega (arith, at-shared-slice-known .shared-slice-known .given i)) _ (at-before .check .ensures) (c .enum-told .given .1)) .0
+    (accepted-laid (entry .args .file .now) (λ i. omega (arith, at-shared-slice-known .shared-slice-known .given i)) _ (at-check .check .ensures) (c .enum-told .given .1)) .0
 
 returns : tie.Need-returns
 returns c =
@@ -33,7 +33,8 @@ returns-2 c =
     let at-check = c .before .before .before in
     let at-shared-slice-known = at-check .before in
     let entry = at-shared-slice-known .before in
-    c .find .ensures ∙ place-found (entry .args .file .now) (entry .args .f) (entry .args .label) ((accepted-laid (entry .args .file .now) (λ i. omega (arith, at-shared-slice-known .shared-slice-known .given i)) _ (at-check .check .ensures) (c .before .enum-told .given .1)) .1)
+    c .find .ensures ∙ place-found (entry .args .file .now) (entry .args .f) (entry .args .label)
+    ((accepted-laid (entry .args .file .now) (λ i. omega (arith, at-shared-slice-known .shared-slice-known .given i)) _ (at-check .check .ensures) (c .before .enum-told .given .1)) .1)
 
 pub place-of-spec : {M : Type 1} → statement M
 place-of-spec =

@@ -63,7 +63,9 @@ put-counts-requires : tie.Need-put-counts-requires Inv-loop μ-loop
 put-counts-requires c κs =
     let at-loop-test = in-loop-before-shared-slice-known5 c in
     let at-loop = at-loop-test .before in
-    let r = (part-room _ _ _ _ _ _ _ _ _ (at-loop .loop .inv) (at-loop-test .loop-test .taken)) in let l = at-loop .loop .inv .lent in (omega (arith, r .0, l .paramsLong), omega (arith, r .0, l .localsLong), omega (arith, r .0, l .blocksLong))
+    let r = (part-room _ _ _ _ _ _ _ _ _ (at-loop .loop .inv) (at-loop-test .loop-test .taken)) in
+    let l = at-loop .loop .inv .lent in
+    (omega (arith, r .0, l .paramsLong), omega (arith, r .0, l .localsLong), omega (arith, r .0, l .blocksLong))
 
 fill-row-requires : tie.Need-fill-row-requires Inv-loop μ-loop
 fill-row-requires c κs =
@@ -73,7 +75,8 @@ fill-row-requires c κs =
 
 add-f : tie.Need-add-f Inv-loop μ-loop
 add-f c =
-    let at-loop-test = c .before .before .before .before .before .before .before .before .before .before .before .before .before .before .before .before .before .before .before .before in
+    let at-loop-test = c .before .before .before .before .before .before .before .before .before .before .before .before .before .before .before .before .before .before .before
+    .before in
     let at-loop = at-loop-test .before in
     let r = (part-room _ _ _ _ _ _ _ _ _ (at-loop .loop .inv) (at-loop-test .loop-test .taken)) in omega (arith, r .0)
 
@@ -86,7 +89,8 @@ loop-again c =
     let at-put-counts = at-fill-row .before .before .before .before .before .before .before .before .before in
     let at-loop-test = at-put-counts .before .before .before .before .before .before .before in
     let at-loop = at-loop-test .before in
-    part-turns _ _ _ _ _ _ _ _ _ (at-loop .loop .inv) (at-loop-test .loop-test .taken) _ _ _ _ _ _ (at-put-counts .put-counts .ensures .0) (at-put-counts .put-counts .ensures .1) (at-put-counts .put-counts .ensures .2) (at-fill-row .fill-row .ensures) (at-fill-row .fill-row .kept .1 .1 .1 .0) (at-fill-row .fill-row .kept .1 .1 .1 .1 .0)
+    part-turns _ _ _ _ _ _ _ _ _ (at-loop .loop .inv) (at-loop-test .loop-test .taken) _ _ _ _ _ _ (at-put-counts .put-counts .ensures .0) (at-put-counts .put-counts .ensures .1)
+    (at-put-counts .put-counts .ensures .2) (at-fill-row .fill-row .ensures) (at-fill-row .fill-row .kept .1 .1 .1 .0) (at-fill-row .fill-row .kept .1 .1 .1 .1 .0)
 
 same-length : tie.Need-same-length Inv-loop μ-loop
 same-length c =

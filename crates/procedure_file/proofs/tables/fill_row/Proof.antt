@@ -30,12 +30,14 @@ mul-row c =
 add-entry : tie.Need-add-entry Inv-loop μ-loop
 add-entry c =
     let entry = entry-before-slice-known2 c in
-    let r = (filling-room (entry .args .file .now) (entry .args .f) (entry .args .at) (entry .args .starts .now) (entry .args .handlers .now) (entry .pre)) in omega (arith, r .1, r .2)
+    let r = (filling-room (entry .args .file .now) (entry .args .f) (entry .args .at) (entry .args .starts .now) (entry .args .handlers .now) (entry .pre)) in
+    omega (arith, r .1, r .2)
 
 add-count : tie.Need-add-count Inv-loop μ-loop
 add-count c =
     let entry = entry-before-slice-known2 c in
-    let r = (filling-room (entry .args .file .now) (entry .args .f) (entry .args .at) (entry .args .starts .now) (entry .args .handlers .now) (entry .pre)) in omega (arith, r .1, r .2)
+    let r = (filling-room (entry .args .file .now) (entry .args .f) (entry .args .at) (entry .args .starts .now) (entry .args .handlers .now) (entry .pre)) in
+    omega (arith, r .1, r .2)
 
 shared-slice-read-labels : tie.Need-shared-slice-read-labels Inv-loop μ-loop
 shared-slice-read-labels c =
@@ -50,7 +52,8 @@ cast-labels c =
 put-block-requires : tie.Need-put-block-requires Inv-loop μ-loop
 put-block-requires c κs =
     let entry = c .before .before .before .before .before .before in
-    let r = (filling-room (entry .args .file .now) (entry .args .f) (entry .args .at) (entry .args .starts .now) (entry .args .handlers .now) (entry .pre)) in (omega (arith, r .0, entry .pre .startsLong), omega (arith, r .0, entry .pre .handlersLong), omega (arith, r .1, r .2))
+    let r = (filling-room (entry .args .file .now) (entry .args .f) (entry .args .at) (entry .args .starts .now) (entry .args .handlers .now) (entry .pre)) in
+    (omega (arith, r .0, entry .pre .startsLong), omega (arith, r .0, entry .pre .handlersLong), omega (arith, r .1, r .2))
 
 block-past-requires : tie.Need-block-past-requires Inv-loop μ-loop
 block-past-requires c κs = tt
@@ -59,7 +62,8 @@ loop-holds : tie.Need-loop-holds Inv-loop μ-loop
 loop-holds c =
     let at-put-block = c .before .before .before .before .before in
     let entry = at-put-block .before .before .before .before .before .before .before in
-    row-starts (entry .args .file .now) (entry .args .f) (entry .args .at) (entry .args .starts .now) (entry .args .handlers .now) (entry .pre) _ _ _ (at-put-block .put-block .ensures .0) (at-put-block .put-block .ensures .1) (c .block-past .ensures)
+    row-starts (entry .args .file .now) (entry .args .f) (entry .args .at) (entry .args .starts .now) (entry .args .handlers .now) (entry .pre) _ _ _
+    (at-put-block .put-block .ensures .0) (at-put-block .put-block .ensures .1) (c .block-past .ensures)
 
 add-l : tie.Need-add-l Inv-loop μ-loop
 add-l c = let r = (row-room _ _ _ _ _ _ _ (c .before .loop .inv) (c .loop-test .taken)) in omega (arith, r .0)
@@ -77,7 +81,8 @@ put-block-requires-2 : tie.Need-put-block-requires-2 Inv-loop μ-loop
 put-block-requires-2 c κs =
     let at-loop-test = c .before .before .before in
     let at-loop = at-loop-test .before in
-    let r = (row-room _ _ _ _ _ _ _ (at-loop .loop .inv) (at-loop-test .loop-test .taken)) in (omega (arith, r .0, at-loop .loop .inv .startsLong), omega (arith, r .0, at-loop .loop .inv .handlersLong), omega (arith, r .1, r .2))
+    let r = (row-room _ _ _ _ _ _ _ (at-loop .loop .inv) (at-loop-test .loop-test .taken)) in
+    (omega (arith, r .0, at-loop .loop .inv .startsLong), omega (arith, r .0, at-loop .loop .inv .handlersLong), omega (arith, r .1, r .2))
 
 block-past-requires-2 : tie.Need-block-past-requires-2 Inv-loop μ-loop
 block-past-requires-2 c κs = tt
@@ -90,7 +95,8 @@ loop-again c =
     let at-put-block2 = c .before .before .before .before .before in
     let at-loop-test = at-put-block2 .before .before .before .before in
     let at-loop = at-loop-test .before in
-    row-turns _ _ _ _ _ _ _ (at-loop .loop .inv) (at-loop-test .loop-test .taken) _ _ _ (at-put-block2 .put-block2 .ensures .0) (at-put-block2 .put-block2 .ensures .1) (c .block-past2 .ensures)
+    row-turns _ _ _ _ _ _ _ (at-loop .loop .inv) (at-loop-test .loop-test .taken) _ _ _ (at-put-block2 .put-block2 .ensures .0) (at-put-block2 .put-block2 .ensures .1)
+    (c .block-past2 .ensures)
 
 same-length : tie.Need-same-length Inv-loop μ-loop
 same-length c =

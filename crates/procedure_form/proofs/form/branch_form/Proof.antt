@@ -4,6 +4,10 @@ use Rattle.procedure_form.specs.FormLaws.{branch-room, branch-form}
 use Rattle.procedure_form.proofs.form.branch_form.Statement.{statement}
 use Rattle.procedure_form.proofs.form.branch_form.Tie as tie
 
+-- Ways back to earlier places that several answers take.
+abbrev entry-before-shared-slice-known4 : tie.After-shared-slice-known4 → tie.Start
+entry-before-shared-slice-known4 c = c .before .before .before .before
+
 add-y : tie.Need-add-y
 add-y c = omega (arith, branch-room (c .args .file .now) (c .args .at) (c .pre))
 
@@ -36,12 +40,12 @@ shared-slice-read-t13 c =
 
 shared-slice-read-t15 : tie.Need-shared-slice-read-t15
 shared-slice-read-t15 c =
-    let entry = c .before .before .before .before in
+    let entry = entry-before-shared-slice-known4 c in
     omega (arith, branch-room (entry .args .file .now) (entry .args .at) (entry .pre))
 
 returns : tie.Need-returns
 returns c =
-    let entry = c .before .before .before .before in
+    let entry = entry-before-shared-slice-known4 c in
     branch-form (entry .args .file .now) (entry .args .at) (entry .pre)
 
 pub branch-form-spec : {M : Type 1} → statement M

@@ -10,6 +10,13 @@ use borrow.Author.Needs.{needs}
 use Rattle.procedure_form.proofs.form.constant_form.Statement.{statement}
 use Rattle.procedure_form.proofs.form.constant_form.Tie as tie
 
+-- Ways back to earlier places that several answers take.
+abbrev entry-before-shared-slice-known3 : tie.After-shared-slice-known3 → tie.Start
+entry-before-shared-slice-known3 c = c .before .before .before
+
+abbrev entry-before-shared-slice-known4 : tie.After-shared-slice-known4 → tie.Start
+entry-before-shared-slice-known4 c = c .before .before .before .before
+
 add-x : tie.Need-add-x
 add-x c =
     let entry = c .before in
@@ -37,22 +44,22 @@ add-value c =
 
 shared-slice-read-value-2 : tie.Need-shared-slice-read-value-2
 shared-slice-read-value-2 c =
-    let entry = c .before .before .before in
+    let entry = entry-before-shared-slice-known3 c in
     omega (arith, constant-room (entry .args .file .now) (entry .args .at) (entry .pre))
 
 add-value-2 : tie.Need-add-value-2
 add-value-2 c =
-    let entry = c .before .before .before in
+    let entry = entry-before-shared-slice-known3 c in
     omega (arith, constant-room (entry .args .file .now) (entry .args .at) (entry .pre))
 
 shared-slice-read-value-3 : tie.Need-shared-slice-read-value-3
 shared-slice-read-value-3 c =
-    let entry = c .before .before .before .before in
+    let entry = entry-before-shared-slice-known4 c in
     omega (arith, constant-room (entry .args .file .now) (entry .args .at) (entry .pre))
 
 add-value-3 : tie.Need-add-value-3
 add-value-3 c =
-    let entry = c .before .before .before .before in
+    let entry = entry-before-shared-slice-known4 c in
     omega (arith, constant-room (entry .args .file .now) (entry .args .at) (entry .pre))
 
 shared-slice-read-value-4 : tie.Need-shared-slice-read-value-4
@@ -72,7 +79,8 @@ returns : tie.Need-returns
 returns c =
     let at-value = c .before in
     let entry = at-value .before .before .before .before .before .before in
-    constant-form (entry .args .file .now) (entry .args .at) (entry .pre) ∙ ap (λ v. Constant (getD (entry .args .file .now) (entry .args .at + 1) 0) v (entry .args .at + 6)) (sym (toZ-ofZ (record { sfits = at-value .value .ok }) ∙ at-value .value .ensures))
+    constant-form (entry .args .file .now) (entry .args .at) (entry .pre) ∙ ap (λ v. Constant (getD (entry .args .file .now) (entry .args .at + 1) 0) v (entry .args .at + 6))
+    (sym (toZ-ofZ (record { sfits = at-value .value .ok }) ∙ at-value .value .ensures))
 
 pub constant-form-spec : {M : Type 1} → statement M
 constant-form-spec =

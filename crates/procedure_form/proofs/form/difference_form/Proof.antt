@@ -4,6 +4,10 @@ use Rattle.procedure_form.specs.FormLaws.{difference-room, difference-fo
 use Rattle.procedure_form.proofs.form.difference_form.Statement.{statement}
 use Rattle.procedure_form.proofs.form.difference_form.Tie as tie
 
+-- Ways back to earlier places that several answers take.
+abbrev entry-before-shared-slice-known3 : tie.After-shared-slice-known3 → tie.Start
+entry-before-shared-slice-known3 c = c .before .before .before
+
 add-x : tie.Need-add-x
 add-x c = omega (arith, difference-room (c .args .file .now) (c .args .at) (c .pre))
 
@@ -28,12 +32,12 @@ shared-slice-read-t10 c =
 
 shared-slice-read-t12 : tie.Need-shared-slice-read-t12
 shared-slice-read-t12 c =
-    let entry = c .before .before .before in
+    let entry = entry-before-shared-slice-known3 c in
     omega (arith, difference-room (entry .args .file .now) (entry .args .at) (entry .pre))
 
 returns : tie.Need-returns
 returns c =
-    let entry = c .before .before .before in
+    let entry = entry-before-shared-slice-known3 c in
     difference-form (entry .args .file .now) (entry .args .at) (entry .pre)
 
 pub difference-form-spec : {M : Type 1} → statement M

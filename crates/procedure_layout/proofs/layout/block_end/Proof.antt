@@ -35,7 +35,9 @@ loop-less c =
     let at-operation-at = at-after-of .before in
     let at-loop = at-operation-at .before in
     let entry = at-loop .before .before in
-    let m = onward-moves (entry .args .file .now) (at-loop .loop .at) (at-next .next .given .0 .0) (ap afterOf (sym (at-operation-at .operation-at .ensures)) ∙ sym (at-after-of .after-of .ensures) ∙ at-next .next .given .1) in omega (arith, m .0, m .1)
+    let m = onward-moves (entry .args .file .now) (at-loop .loop .at) (at-next .next .given .0 .0)
+    (ap afterOf (sym (at-operation-at .operation-at .ensures)) ∙ sym (at-after-of .after-of .ensures) ∙ at-next .next .given .1) in
+    omega (arith, m .0, m .1)
 
 loop-again : tie.Need-loop-again Inv-loop μ-loop
 loop-again c =
@@ -44,7 +46,10 @@ loop-again c =
     let at-operation-at = at-after-of .before in
     let at-loop = at-operation-at .before in
     let entry = at-loop .before .before in
-    sym (block-onward (entry .args .file .now) (at-loop .loop .at) (at-next .next .given .0 .0) (ap afterOf (sym (at-operation-at .operation-at .ensures)) ∙ sym (at-after-of .after-of .ensures) ∙ at-next .next .given .1)) ∙ at-loop .loop .inv
+    sym
+    (block-onward (entry .args .file .now) (at-loop .loop .at) (at-next .next .given .0 .0) (ap afterOf (sym (at-operation-at .operation-at .ensures)) ∙ sym (at-after-of .after-of
+    .ensures) ∙ at-next .next .given .1))
+    ∙ at-loop .loop .inv
 
 enum-known-next-2 : tie.Need-enum-known-next-2 Inv-loop μ-loop
 enum-known-next-2 c = search needs
@@ -56,7 +61,10 @@ returns c =
     let at-operation-at = at-after-of .before in
     let at-loop = at-operation-at .before in
     let entry = at-loop .before .before in
-    sym (block-ended (entry .args .file .now) (at-loop .loop .at) (at-next2 .next2 .given .0 .0) (ap afterOf (sym (at-operation-at .operation-at .ensures)) ∙ sym (at-after-of .after-of .ensures) ∙ at-next2 .next2 .given .1)) ∙ at-loop .loop .inv
+    sym
+    (block-ended (entry .args .file .now) (at-loop .loop .at) (at-next2 .next2 .given .0 .0) (ap afterOf (sym (at-operation-at .operation-at .ensures)) ∙ sym (at-after-of
+    .after-of .ensures) ∙ at-next2 .next2 .given .1))
+    ∙ at-loop .loop .inv
 
 enum-known-r : tie.Need-enum-known-r Inv-loop μ-loop
 enum-known-r c = search needs
@@ -68,7 +76,10 @@ returns-2 c =
     let at-operation-at = at-after-of .before in
     let at-loop = at-operation-at .before in
     let entry = at-loop .before .before in
-    sym (block-halted (entry .args .file .now) (at-loop .loop .at) (at-r .r .given .0 .0) (ap afterOf (sym (at-operation-at .operation-at .ensures)) ∙ sym (at-after-of .after-of .ensures) ∙ at-r .r .given .1)) ∙ at-loop .loop .inv
+    sym
+    (block-halted (entry .args .file .now) (at-loop .loop .at) (at-r .r .given .0 .0) (ap afterOf (sym (at-operation-at .operation-at .ensures)) ∙ sym (at-after-of .after-of
+    .ensures) ∙ at-r .r .given .1))
+    ∙ at-loop .loop .inv
 
 pub block-end-spec : {M : Type 1} → statement M
 block-end-spec =

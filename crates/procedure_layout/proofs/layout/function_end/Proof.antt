@@ -50,7 +50,8 @@ returns-3 c =
     let at-block-end = c .before .before .before .before in
     let at-n = at-block-end .before .before in
     let at-heading-at = at-n .before .before in
-    c .labels-end .ensures ∙ sym (function-3 _ _ _ _ (sym (at-heading-at .heading-at .ensures) ∙ at-n .n .given .1) (sym (at-block-end .block-end .ensures) ∙ c .before .before .next .given .1))
+    c .labels-end .ensures ∙ sym
+    (function-3 _ _ _ _ (sym (at-heading-at .heading-at .ensures) ∙ at-n .n .given .1) (sym (at-block-end .block-end .ensures) ∙ c .before .before .next .given .1))
 
 pub function-end-spec : {M : Type 1} → statement M
 function-end-spec =

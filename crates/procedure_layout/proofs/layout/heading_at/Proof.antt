@@ -61,7 +61,8 @@ returns-3 c =
     let at-count-at2 = c .before .before .before in
     let at-enum-told = at-count-at2 .before in
     let at-count-at = at-enum-told .before .before in
-    c .count-at3 .ensures ∙ sym (heading-3 _ _ _ _ (sym (at-count-at .count-at .ensures) ∙ at-enum-told .enum-told .given .1) (sym (at-count-at2 .count-at2 .ensures) ∙ c .before .enum-told2 .given .1))
+    c .count-at3 .ensures ∙ sym
+    (heading-3 _ _ _ _ (sym (at-count-at .count-at .ensures) ∙ at-enum-told .enum-told .given .1) (sym (at-count-at2 .count-at2 .ensures) ∙ c .before .enum-told2 .given .1))
 
 pub heading-at-spec : {M : Type 1} → statement M
 heading-at-spec =

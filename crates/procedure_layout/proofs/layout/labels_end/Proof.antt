@@ -34,7 +34,8 @@ loop-again c =
     let at-loop-test = at-labelled-end .before in
     let at-loop = at-loop-test .before in
     let entry = at-loop .before .before in
-    many-turn labelled (entry .args .file .now) (at-loop .loop .left) (at-loop .loop .at) (at-next .next .given .0 .0) (at-loop-test .loop-test .taken) (sym (at-labelled-end .labelled-end .ensures) ∙ at-next .next .given .1) ∙ at-loop .loop .inv
+    many-turn labelled (entry .args .file .now) (at-loop .loop .left) (at-loop .loop .at) (at-next .next .given .0 .0) (at-loop-test .loop-test .taken)
+    (sym (at-labelled-end .labelled-end .ensures) ∙ at-next .next .given .1) ∙ at-loop .loop .inv
 
 enum-known-r : tie.Need-enum-known-r Inv-loop μ-loop
 enum-known-r c = search needs
@@ -46,7 +47,8 @@ returns c =
     let at-loop-test = at-labelled-end .before in
     let at-loop = at-loop-test .before in
     let entry = at-loop .before .before in
-    many-halt labelled (entry .args .file .now) (at-loop .loop .left) (at-loop .loop .at) (at-r .r .given .0 .0) (at-loop-test .loop-test .taken) (sym (at-labelled-end .labelled-end .ensures) ∙ at-r .r .given .1) ∙ at-loop .loop .inv
+    many-halt labelled (entry .args .file .now) (at-loop .loop .left) (at-loop .loop .at) (at-r .r .given .0 .0) (at-loop-test .loop-test .taken)
+    (sym (at-labelled-end .labelled-end .ensures) ∙ at-r .r .given .1) ∙ at-loop .loop .inv
 
 returns-2 : tie.Need-returns-2 Inv-loop μ-loop
 returns-2 c =

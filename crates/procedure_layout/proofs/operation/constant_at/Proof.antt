@@ -57,7 +57,8 @@ returns-2 : tie.Need-returns-2
 returns-2 c =
     let at-value = c .before in
     let entry = at-value .before .before .before .before .before .before .before in
-    ap (λ v. Constant (getD (entry .args .file .now) (entry .args .at + 1) 0) v (entry .args .at + 6)) (toZ-ofZ (record { sfits = at-value .value .ok }) ∙ at-value .value .ensures) ∙ sym (constant-in (entry .args .file .now) (entry .args .at) (omega arith))
+    ap (λ v. Constant (getD (entry .args .file .now) (entry .args .at + 1) 0) v (entry .args .at + 6)) (toZ-ofZ (record { sfits = at-value .value .ok }) ∙ at-value .value .ensures)
+    ∙ sym (constant-in (entry .args .file .now) (entry .args .at) (omega arith))
 
 pub constant-at-spec : {M : Type 1} → statement M
 constant-at-spec =

@@ -8,7 +8,9 @@ use Rattle.procedure_names.proofs.names.arguments_named.Statement.{stat
 use Rattle.procedure_names.proofs.names.arguments_named.Tie as tie
 
 abbrev Inv-loop : tie.InvT-loop
-Inv-loop file at count variables place₀ end place = (room : at + 4 + count ≤ length file) × (at + 4 ≤ place) × (end ≡ at + 4 + count) × (argumentsLeft file variables at count room place ≡ argumentsLeft file variables at count room (at + 4))
+Inv-loop file at count variables place₀ end place =
+    (room : at + 4 + count ≤ length file) × (at + 4 ≤ place) × (end ≡ at + 4 + count) ×
+    (argumentsLeft file variables at count room place ≡ argumentsLeft file variables at count room (at + 4))
 
 abbrev μ-loop : tie.MeasureT-loop
 μ-loop file at count variables place₀ end place = end - place
@@ -42,7 +44,14 @@ loop-again c =
     let at-loop-test = c .before .before .before .before in
     let at-loop = at-loop-test .before in
     let entry = at-loop .before .before in
-    let i = at-loop .loop .inv in (entry .pre, omega (arith, i .1), i .2, argument-on (entry .args .file .now) (entry .args .variables) (entry .args .at) (entry .args .count) (entry .pre) (at-loop .loop .place) (i .1) (omega (arith, i .2, at-loop-test .loop-test .taken)) (variable-is _ _ _ (sym (c .before .before .variable-number .ensures) ∙ c .enum-told .given .1)) ∙ i .3)
+    let i = at-loop .loop .inv in (
+      entry .pre,
+      omega (arith, i .1),
+      i .2,
+      argument-on (entry .args .file .now) (entry .args .variables) (entry .args .at) (entry .args .count) (entry .pre) (at-loop .loop
+          .place) (i .1) (omega (arith, i .2, at-loop-test .loop-test .taken)) (variable-is _ _ _ (sym (c .before .before .variable-number .ensures) ∙ c .enum-told .given .1)) ∙ i
+          .3,
+    )
 
 enum-told-2 : tie.Need-enum-told-2 Inv-loop μ-loop
 enum-told-2 c = search needs
@@ -52,13 +61,18 @@ returns c =
     let at-loop-test = c .before .before .before .before in
     let at-loop = at-loop-test .before in
     let entry = at-loop .before .before in
-    let i = at-loop .loop .inv in argument-wrong (entry .args .file .now) (entry .args .variables) (entry .args .at) (entry .args .count) (entry .pre) (at-loop .loop .place) (i .1) (omega (arith, i .2, at-loop-test .loop-test .taken)) (variable-none _ _ (sym (c .before .before .variable-number .ensures) ∙ c .enum-told2 .given .1)) ∙ i .3 ∙ arguments-start (entry .args .file .now) (entry .args .variables) (entry .args .at) (entry .args .count) (entry .pre)
+    let i = at-loop .loop .inv in
+    argument-wrong (entry .args .file .now) (entry .args .variables) (entry .args .at) (entry .args .count) (entry .pre) (at-loop .loop .place) (i .1)
+    (omega (arith, i .2, at-loop-test .loop-test .taken)) (variable-none _ _ (sym (c .before .before .variable-number .ensures) ∙ c .enum-told2 .given .1)) ∙ i .3 ∙
+    arguments-start (entry .args .file .now) (entry .args .variables) (entry .args .at) (entry .args .count) (entry .pre)
 
 returns-2 : tie.Need-returns-2 Inv-loop μ-loop
 returns-2 c =
     let at-loop = c .before in
     let entry = at-loop .before .before in
-    let i = at-loop .loop .inv in arguments-done (entry .args .file .now) (entry .args .variables) (entry .args .at) (entry .args .count) (entry .pre) (at-loop .loop .place) (omega (arith, i .2, c .loop-test .left)) ∙ i .3 ∙ arguments-start (entry .args .file .now) (entry .args .variables) (entry .args .at) (entry .args .count) (entry .pre)
+    let i = at-loop .loop .inv in
+    arguments-done (entry .args .file .now) (entry .args .variables) (entry .args .at) (entry .args .count) (entry .pre) (at-loop .loop .place)
+    (omega (arith, i .2, c .loop-test .left)) ∙ i .3 ∙ arguments-start (entry .args .file .now) (entry .args .variables) (entry .args .at) (entry .args .count) (entry .pre)
 
 pub arguments-named-spec : {M : Type 1} → statement M
 arguments-named-spec =

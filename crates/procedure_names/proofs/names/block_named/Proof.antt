@@ -38,7 +38,9 @@ returns c =
     let at-operation-at = at-operation-named .before in
     let at-loop = at-operation-at .before in
     let entry = entry-before-at-loop at-loop in
-    turn-wrong (entry .args .params .now) (entry .args .variables) (entry .args .labels) (entry .args .file .now) (at-loop .loop .at) (at-operation-at .operation-at .result) (at-operation-named .operation-named .result) (at-operation-at .operation-at .ensures) (at-operation-named .operation-named .ensures) (at-r .r .given .0 .0) (at-r .r .given .1) ∙ at-loop .loop .inv
+    turn-wrong (entry .args .params .now) (entry .args .variables) (entry .args .labels) (entry .args .file .now) (at-loop .loop .at) (at-operation-at .operation-at .result)
+    (at-operation-named .operation-named .result) (at-operation-at .operation-at .ensures) (at-operation-named .operation-named .ensures) (at-r .r .given .0 .0)
+    (at-r .r .given .1) ∙ at-loop .loop .inv
 
 enum-told : tie.Need-enum-told Inv-loop μ-loop
 enum-told c = search needs
@@ -56,7 +58,9 @@ loop-less c =
     let at-operation-at = at-after-of .before .before .before .before in
     let at-loop = at-operation-at .before in
     let entry = entry-before-at-loop at-loop in
-    let m = onward-moves (entry .args .file .now) (at-loop .loop .at) (at-next .next .given .0 .0) (ap afterOf (sym (at-operation-at .operation-at .ensures)) ∙ sym (at-after-of .after-of .ensures) ∙ at-next .next .given .1) in omega (arith, m .0, m .1)
+    let m = onward-moves (entry .args .file .now) (at-loop .loop .at) (at-next .next .given .0 .0)
+    (ap afterOf (sym (at-operation-at .operation-at .ensures)) ∙ sym (at-after-of .after-of .ensures) ∙ at-next .next .given .1) in
+    omega (arith, m .0, m .1)
 
 loop-again : tie.Need-loop-again Inv-loop μ-loop
 loop-again c =
@@ -67,33 +71,39 @@ loop-again c =
     let at-operation-at = at-operation-named .before in
     let at-loop = at-operation-at .before in
     let entry = entry-before-at-loop at-loop in
-    turn-on (entry .args .params .now) (entry .args .variables) (entry .args .labels) (entry .args .file .now) (at-loop .loop .at) (at-operation-at .operation-at .result) (at-operation-named .operation-named .result) (at-operation-at .operation-at .ensures) (at-operation-named .operation-named .ensures) (at-next .next .given .0 .0) _ (at-enum-told .enum-told .given .1) (at-after-of .after-of .ensures) (at-next .next .given .1) ∙ at-loop .loop .inv
+    turn-on (entry .args .params .now) (entry .args .variables) (entry .args .labels) (entry .args .file .now) (at-loop .loop .at) (at-operation-at .operation-at .result)
+    (at-operation-named .operation-named .result) (at-operation-at .operation-at .ensures) (at-operation-named .operation-named .ensures) (at-next .next .given .0 .0) _
+    (at-enum-told .enum-told .given .1) (at-after-of .after-of .ensures) (at-next .next .given .1) ∙ at-loop .loop .inv
 
 enum-told-2 : tie.Need-enum-told-2 Inv-loop μ-loop
 enum-told-2 c = search needs
 
 returns-2 : tie.Need-returns-2 Inv-loop μ-loop
 returns-2 c =
-    let at-before = c .before .before in
-    let at-enum-told = at-before .before in
+    let at-after-of = c .before .before in
+    let at-enum-told = at-after-of .before in
     let at-operation-named = at-enum-told .before .before in
     let at-operation-at = at-operation-named .before in
     let at-loop = at-operation-at .before in
     let entry = entry-before-at-loop at-loop in
-    turn-last (entry .args .params .now) (entry .args .variables) (entry .args .labels) (entry .args .file .now) (at-loop .loop .at) (at-operation-at .operation-at .result) (at-operation-named .operation-named .result) (at-operation-at .operation-at .ensures) (at-operation-named .operation-named .ensures) _ (at-enum-told .enum-told .given .1) (at-before .after-of .ensures) (λ next w. not-ended _ _ next (c .enum-told2 .given .1) w) ∙ at-loop .loop .inv
+    turn-last (entry .args .params .now) (entry .args .variables) (entry .args .labels) (entry .args .file .now) (at-loop .loop .at) (at-operation-at .operation-at .result)
+    (at-operation-named .operation-named .result) (at-operation-at .operation-at .ensures) (at-operation-named .operation-named .ensures) _ (at-enum-told .enum-told .given .1)
+    (at-after-of .after-of .ensures) (λ next w. not-ended _ _ next (c .enum-told2 .given .1) w) ∙ at-loop .loop .inv
 
 enum-told-3 : tie.Need-enum-told-3 Inv-loop μ-loop
 enum-told-3 c = search needs
 
 returns-3 : tie.Need-returns-3 Inv-loop μ-loop
 returns-3 c =
-    let at-before = c .before .before in
-    let at-enum-told = at-before .before in
+    let at-after-of = c .before .before in
+    let at-enum-told = at-after-of .before in
     let at-operation-named = at-enum-told .before .before in
     let at-operation-at = at-operation-named .before in
     let at-loop = at-operation-at .before in
     let entry = entry-before-at-loop at-loop in
-    turn-last (entry .args .params .now) (entry .args .variables) (entry .args .labels) (entry .args .file .now) (at-loop .loop .at) (at-operation-at .operation-at .result) (at-operation-named .operation-named .result) (at-operation-at .operation-at .ensures) (at-operation-named .operation-named .ensures) _ (at-enum-told .enum-told .given .1) (at-before .after-of .ensures) (λ next w. not-halted _ _ next (c .enum-told3 .given .1) w) ∙ at-loop .loop .inv
+    turn-last (entry .args .params .now) (entry .args .variables) (entry .args .labels) (entry .args .file .now) (at-loop .loop .at) (at-operation-at .operation-at .result)
+    (at-operation-named .operation-named .result) (at-operation-at .operation-at .ensures) (at-operation-named .operation-named .ensures) _ (at-enum-told .enum-told .given .1)
+    (at-after-of .after-of .ensures) (λ next w. not-halted _ _ next (c .enum-told3 .given .1) w) ∙ at-loop .loop .inv
 
 pub block-named-spec : {M : Type 1} → statement M
 block-named-spec =

@@ -17,9 +17,12 @@ or-else-requires c κs = search needs
 
 returns : tie.Need-returns
 returns c =
-    let at-before = c .before .before in
-    let entry = at-before .before in
-    let a = entry .args in join (variable (a .variables) (a .at + 1) (a .y) ∷ variable (a .variables) (a .at + 2) (a .z) ∷ []) (label (a .labels) (a .at + 3) (a .l) ∷ label (a .labels) (a .at + 4) (a .m) ∷ []) _ _ _ (c .or-else .ensures) (at-before .two-named .ensures) (c .before .labels-named .ensures)
+    let at-two-named = c .before .before in
+    let entry = at-two-named .before in
+    let a = entry .args in
+    join (variable (a .variables) (a .at + 1) (a .y) ∷ variable (a .variables) (a .at + 2) (a .z) ∷ [])
+    (label (a .labels) (a .at + 3) (a .l) ∷ label (a .labels) (a .at + 4) (a .m) ∷ []) _ _ _ (c .or-else .ensures) (at-two-named .two-named .ensures)
+    (c .before .labels-named .ensures)
 
 pub branch-named-spec : {M : Type 1} → statement M
 branch-named-spec =

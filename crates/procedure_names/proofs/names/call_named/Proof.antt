@@ -27,11 +27,17 @@ or-else-requires-2 c κs = search needs
 
 returns : tie.Need-returns
 returns c =
-    let at-before = c .before .before in
-    let at-callee-named = at-before .before in
+    let at-arguments-named = c .before .before in
+    let at-callee-named = at-arguments-named .before in
     let at-variable-named = at-callee-named .before in
     let entry = at-variable-named .before .before .before in
-    let a = entry .args in let ps = a .params .now in join (variable (a .variables) (a .at + 1) (a .target) ∷ []) (function ps (a .at + 2) (a .callee) ∷ arity ps (a .at + 3) (a .callee) (a .count) ∷ arguments (a .variables) (a .at + 4) (argumentsAt (a .file .now) (a .at) (a .count))) _ _ _ (c .or-else2 .ensures) (at-variable-named .variable-named .ensures) (join (function ps (a .at + 2) (a .callee) ∷ arity ps (a .at + 3) (a .callee) (a .count) ∷ []) (arguments (a .variables) (a .at + 4) (argumentsAt (a .file .now) (a .at) (a .count))) _ _ _ (c .before .or-else .ensures) (at-callee-named .callee-named .ensures) (at-before .arguments-named .ensures))
+    let a = entry .args in
+    let ps = a .params .now in
+    join (variable (a .variables) (a .at + 1) (a .target) ∷ [])
+    (function ps (a .at + 2) (a .callee) ∷ arity ps (a .at + 3) (a .callee) (a .count) ∷ arguments (a .variables) (a .at + 4) (argumentsAt (a .file .now) (a .at) (a .count))) _
+    _ _ (c .or-else2 .ensures) (at-variable-named .variable-named .ensures)
+    (join (function ps (a .at + 2) (a .callee) ∷ arity ps (a .at + 3) (a .callee) (a .count) ∷ []) (arguments (a .variables) (a .at + 4) (argumentsAt (a .file .now) (a .at)
+    (a .count))) _ _ _ (c .before .or-else .ensures) (at-callee-named .callee-named .ensures) (at-arguments-named .arguments-named .ensures))
 
 pub call-named-spec : {M : Type 1} → statement M
 call-named-spec =

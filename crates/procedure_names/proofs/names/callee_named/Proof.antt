@@ -27,26 +27,32 @@ arity-of-requires c κs =
     let at-callee = c .before in
     let at-function-number = at-callee .before .before in
     let entry = at-function-number .before .before in
-    let f = (function-is (entry .args .g) (length (entry .args .params .now)) (at-callee .callee .given .0 .0) (sym (at-function-number .function-number .ensures) ∙ at-callee .callee .given .1)) in omega (arith, f .0, f .1)
+    let f = (function-is (entry .args .g) (length (entry .args .params .now)) (at-callee .callee .given .0 .0) (sym (at-function-number .function-number .ensures) ∙ at-callee .callee .given .1)) in
+    omega (arith, f .0, f .1)
 
 returns : tie.Need-returns
 returns c =
     let entry = c .before .before .before .before in
-    callee-none (entry .args .params .now) (entry .args .at + 2) (entry .args .at + 3) (entry .args .g) (entry .args .count) (function-none (entry .args .g) (length (entry .args .params .now)) (sym (c .before .before .function-number .ensures) ∙ c .enum-told .given .1))
+    callee-none (entry .args .params .now) (entry .args .at + 2) (entry .args .at + 3) (entry .args .g) (entry .args .count)
+    (function-none (entry .args .g) (length (entry .args .params .now)) (sym (c .before .before .function-number .ensures) ∙ c .enum-told .given .1))
 
 returns-2 : tie.Need-returns-2
 returns-2 c =
     let at-callee = c .before .before .before in
     let at-function-number = at-callee .before .before in
     let entry = at-function-number .before .before in
-    callee-right (entry .args .params .now) (entry .args .at + 2) (entry .args .at + 3) (entry .args .g) (entry .args .count) _ _ (function-is (entry .args .g) (length (entry .args .params .now)) (at-callee .callee .given .0 .0) (sym (at-function-number .function-number .ensures) ∙ at-callee .callee .given .1)) (c .before .arity-of .ensures) (c .if1 .taken)
+    callee-right (entry .args .params .now) (entry .args .at + 2) (entry .args .at + 3) (entry .args .g) (entry .args .count) _ _
+    (function-is (entry .args .g) (length (entry .args .params .now)) (at-callee .callee .given .0 .0) (sym (at-function-number .function-number .ensures) ∙ at-callee .callee .given .1))
+    (c .before .arity-of .ensures) (c .if1 .taken)
 
 returns-3 : tie.Need-returns-3
 returns-3 c =
     let at-callee = c .before .before .before in
     let at-function-number = at-callee .before .before in
     let entry = at-function-number .before .before in
-    callee-wrong (entry .args .params .now) (entry .args .at + 2) (entry .args .at + 3) (entry .args .g) (entry .args .count) _ _ (function-is (entry .args .g) (length (entry .args .params .now)) (at-callee .callee .given .0 .0) (sym (at-function-number .function-number .ensures) ∙ at-callee .callee .given .1)) (c .before .arity-of .ensures) (c .if1 .left)
+    callee-wrong (entry .args .params .now) (entry .args .at + 2) (entry .args .at + 3) (entry .args .g) (entry .args .count) _ _
+    (function-is (entry .args .g) (length (entry .args .params .now)) (at-callee .callee .given .0 .0) (sym (at-function-number .function-number .ensures) ∙ at-callee .callee .given .1))
+    (c .before .arity-of .ensures) (c .if1 .left)
 
 pub callee-named-spec : {M : Type 1} → statement M
 callee-named-spec =

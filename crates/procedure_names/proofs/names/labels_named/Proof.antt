@@ -23,9 +23,11 @@ or-else-requires c κs = search needs
 
 returns : tie.Need-returns
 returns c =
-    let at-before = c .before .before in
-    let entry = at-before .before in
-    let a = entry .args in join (label (a .labels) (a .at + 3) (a .l) ∷ []) (label (a .labels) (a .at + 4) (a .m) ∷ []) _ _ _ (c .or-else .ensures) (at-before .label-named .ensures) (c .before .label-named2 .ensures)
+    let at-label-named = c .before .before in
+    let entry = at-label-named .before in
+    let a = entry .args in
+    join (label (a .labels) (a .at + 3) (a .l) ∷ []) (label (a .labels) (a .at + 4) (a .m) ∷ []) _ _ _ (c .or-else .ensures) (at-label-named .label-named .ensures)
+    (c .before .label-named2 .ensures)
 
 pub labels-named-spec : {M : Type 1} → statement M
 labels-named-spec =

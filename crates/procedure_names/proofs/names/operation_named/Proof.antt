@@ -7,7 +7,8 @@ use Rattle.procedure_names.proofs.names.operation_named.Tie as tie
 returns : tie.Need-returns
 returns c =
     let entry = c .before .before .before in
-    by-form (entry .args .params .now) (entry .args .variables) (entry .args .labels) (entry .args .file .now) (entry .args .at) (entry .args .o) _ _ (entry .pre) (past-names (entry .args .params .now) (entry .args .variables) (entry .args .labels) (entry .args .file .now) (entry .args .at) (c .if1 .taken))
+    by-form (entry .args .params .now) (entry .args .variables) (entry .args .labels) (entry .args .file .now) (entry .args .at) (entry .args .o) _ _ (entry .pre)
+    (past-names (entry .args .params .now) (entry .args .variables) (entry .args .labels) (entry .args .file .now) (entry .args .at) (c .if1 .taken))
 
 enum-known-o : tie.Need-enum-known-o
 enum-known-o c = search needs
@@ -71,37 +72,44 @@ enum-told-2 c = search needs
 returns-2 : tie.Need-returns-2
 returns-2 c =
     let entry = c .before .before .before .before .before .before .before in
-    by-form (entry .args .params .now) (entry .args .variables) (entry .args .labels) (entry .args .file .now) (entry .args .at) (entry .args .o) _ _ (c .before .before .o .given .1) (c .variable-named .ensures)
+    by-form (entry .args .params .now) (entry .args .variables) (entry .args .labels) (entry .args .file .now) (entry .args .at) (entry .args .o) _ _
+    (c .before .before .o .given .1) (c .variable-named .ensures)
 
 returns-3 : tie.Need-returns-3
 returns-3 c =
     let entry = c .before .before .before .before .before .before .before in
-    by-form (entry .args .params .now) (entry .args .variables) (entry .args .labels) (entry .args .file .now) (entry .args .at) (entry .args .o) _ _ (c .before .before .o2 .given .1) (c .two-named .ensures)
+    by-form (entry .args .params .now) (entry .args .variables) (entry .args .labels) (entry .args .file .now) (entry .args .at) (entry .args .o) _ _
+    (c .before .before .o2 .given .1) (c .two-named .ensures)
 
 returns-4 : tie.Need-returns-4
 returns-4 c =
     let entry = c .before .before .before .before .before .before .before in
-    by-form (entry .args .params .now) (entry .args .variables) (entry .args .labels) (entry .args .file .now) (entry .args .at) (entry .args .o) _ _ (c .before .before .o3 .given .1) (c .three-named .ensures)
+    by-form (entry .args .params .now) (entry .args .variables) (entry .args .labels) (entry .args .file .now) (entry .args .at) (entry .args .o) _ _
+    (c .before .before .o3 .given .1) (c .three-named .ensures)
 
 returns-5 : tie.Need-returns-5
 returns-5 c =
     let entry = c .before .before .before .before .before .before .before in
-    by-form (entry .args .params .now) (entry .args .variables) (entry .args .labels) (entry .args .file .now) (entry .args .at) (entry .args .o) _ _ (c .before .before .o4 .given .1) (c .call-named .ensures)
+    by-form (entry .args .params .now) (entry .args .variables) (entry .args .labels) (entry .args .file .now) (entry .args .at) (entry .args .o) _ _
+    (c .before .before .o4 .given .1) (c .call-named .ensures)
 
 returns-6 : tie.Need-returns-6
 returns-6 c =
     let entry = c .before .before .before .before .before .before .before in
-    by-form (entry .args .params .now) (entry .args .variables) (entry .args .labels) (entry .args .file .now) (entry .args .at) (entry .args .o) _ _ (c .before .before .o5 .given .1) (c .label-named .ensures)
+    by-form (entry .args .params .now) (entry .args .variables) (entry .args .labels) (entry .args .file .now) (entry .args .at) (entry .args .o) _ _
+    (c .before .before .o5 .given .1) (c .label-named .ensures)
 
 returns-7 : tie.Need-returns-7
 returns-7 c =
     let entry = c .before .before .before .before .before .before .before in
-    by-form (entry .args .params .now) (entry .args .variables) (entry .args .labels) (entry .args .file .now) (entry .args .at) (entry .args .o) _ _ (c .before .before .o6 .given .1) (c .variable-named2 .ensures)
+    by-form (entry .args .params .now) (entry .args .variables) (entry .args .labels) (entry .args .file .now) (entry .args .at) (entry .args .o) _ _
+    (c .before .before .o6 .given .1) (c .variable-named2 .ensures)
 
 returns-8 : tie.Need-returns-8
 returns-8 c =
     let entry = c .before .before .before .before .before .before .before in
-    by-form (entry .args .params .now) (entry .args .variables) (entry .args .labels) (entry .args .file .now) (entry .args .at) (entry .args .o) _ _ (c .before .before .o7 .given .1) (c .branch-named .ensures)
+    by-form (entry .args .params .now) (entry .args .variables) (entry .args .labels) (entry .args .file .now) (entry .args .at) (entry .args .o) _ _
+    (c .before .before .o7 .given .1) (c .branch-named .ensures)
 
 returns-9 : tie.Need-returns-9
 returns-9 c =

@@ -20,9 +20,11 @@ or-else-requires c κs = search needs
 
 returns : tie.Need-returns
 returns c =
-    let at-before = c .before .before in
-    let entry = at-before .before in
-    let a = entry .args in join (variable (a .variables) (a .at + 1) (a .x) ∷ variable (a .variables) (a .at + 2) (a .y) ∷ []) (variable (a .variables) (a .at + 3) (a .z) ∷ []) _ _ _ (c .or-else .ensures) (at-before .two-named .ensures) (c .before .variable-named .ensures)
+    let at-two-named = c .before .before in
+    let entry = at-two-named .before in
+    let a = entry .args in
+    join (variable (a .variables) (a .at + 1) (a .x) ∷ variable (a .variables) (a .at + 2) (a .y) ∷ []) (variable (a .variables) (a .at + 3) (a .z) ∷ []) _ _ _
+    (c .or-else .ensures) (at-two-named .two-named .ensures) (c .before .variable-named .ensures)
 
 pub three-named-spec : {M : Type 1} → statement M
 three-named-spec =

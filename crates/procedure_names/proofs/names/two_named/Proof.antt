@@ -23,9 +23,11 @@ or-else-requires c κs = search needs
 
 returns : tie.Need-returns
 returns c =
-    let at-before = c .before .before in
-    let entry = at-before .before in
-    let a = entry .args in join (variable (a .variables) (a .at + 1) (a .x) ∷ []) (variable (a .variables) (a .at + 2) (a .y) ∷ []) _ _ _ (c .or-else .ensures) (at-before .variable-named .ensures) (c .before .variable-named2 .ensures)
+    let at-variable-named = c .before .before in
+    let entry = at-variable-named .before in
+    let a = entry .args in
+    join (variable (a .variables) (a .at + 1) (a .x) ∷ []) (variable (a .variables) (a .at + 2) (a .y) ∷ []) _ _ _ (c .or-else .ensures)
+    (at-variable-named .variable-named .ensures) (c .before .variable-named2 .ensures)
 
 pub two-named-spec : {M : Type 1} → statement M
 two-named-spec =

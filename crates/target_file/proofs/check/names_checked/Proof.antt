@@ -22,12 +22,16 @@ tables-of-requires c κs = search needs
 shared-slice-read-pair : tie.Need-shared-slice-read-pair
 shared-slice-read-pair c =
     let entry = c .before .before .before .before in
-    let f = laid-file _ (entry .pre) in let w = f .whole in omega arith
+    let f = laid-file _ (entry .pre) in
+    let w = f .whole in
+    omega arith
 
 shared-slice-read-pair-2 : tie.Need-shared-slice-read-pair-2
 shared-slice-read-pair-2 c =
     let entry = c .before .before .before .before .before in
-    let f = laid-file _ (entry .pre) in let w = f .whole in omega arith
+    let f = laid-file _ (entry .pre) in
+    let w = f .whole in
+    omega arith
 
 pair-requires : tie.Need-pair-requires
 pair-requires c κs = search needs
@@ -36,13 +40,21 @@ array-share-prefix-params : tie.Need-array-share-prefix-params
 array-share-prefix-params c =
     let at-tables-of = tables-of-before-pair c in
     let entry = at-tables-of .before .before in
-    let f = laid-file _ (entry .pre) in let n = (c .pair .ensures ∙ laid-file _ (entry .pre) .counted) in let m = f .most in let b = at-tables-of .tables-of .ensures .broad in omega (arith, n, b)
+    let f = laid-file _ (entry .pre) in
+    let n = (c .pair .ensures ∙ laid-file _ (entry .pre) .counted) in
+    let m = f .most in
+    let b = at-tables-of .tables-of .ensures .broad in
+    omega (arith, n, b)
 
 slice-aggregate-code-end : tie.Need-slice-aggregate-code-end
 slice-aggregate-code-end c =
     let at-tables-of = c .before .before .before .before .before in
     let entry = at-tables-of .before .before in
-    let f = laid-file _ (entry .pre) in let n = (c .before .pair .ensures ∙ laid-file _ (entry .pre) .counted) in let m = f .most in let b = at-tables-of .tables-of .ensures .broad in sym (length-take-le _ _ (omega (arith, n, b)))
+    let f = laid-file _ (entry .pre) in
+    let n = (c .before .pair .ensures ∙ laid-file _ (entry .pre) .counted) in
+    let m = f .most in
+    let b = at-tables-of .tables-of .ensures .broad in
+    sym (length-take-le _ _ (omega (arith, n, b)))
 
 code-end-requires : tie.Need-code-end-requires
 code-end-requires c κs = search needs
@@ -58,7 +70,8 @@ returns c =
     let at-pair = c .before .before .before .before in
     let at-tables-of = tables-of-before-pair at-pair in
     let entry = at-tables-of .before .before in
-    names-past _ _ _ _ (at-pair .pair .ensures ∙ laid-file _ (entry .pre) .counted) refl (at-tables-of .tables-of .ensures .counts) _ (sym (c .before .before .code-end .ensures) ∙ c .enum-told .given .1)
+    names-past _ _ _ _ (at-pair .pair .ensures ∙ laid-file _ (entry .pre) .counted) refl (at-tables-of .tables-of .ensures .counts) _
+    (sym (c .before .before .code-end .ensures) ∙ c .enum-told .given .1)
 
 returns-2 : tie.Need-returns-2
 returns-2 c =
@@ -66,7 +79,8 @@ returns-2 c =
     let at-pair = at-code-end .before .before in
     let at-tables-of = tables-of-before-pair at-pair in
     let entry = at-tables-of .before .before in
-    names-stop _ _ _ _ (at-pair .pair .ensures ∙ laid-file _ (entry .pre) .counted) refl (at-tables-of .tables-of .ensures .counts) _ (sym (at-code-end .code-end .ensures) ∙ c .before .r .given .1)
+    names-stop _ _ _ _ (at-pair .pair .ensures ∙ laid-file _ (entry .pre) .counted) refl (at-tables-of .tables-of .ensures .counts) _
+    (sym (at-code-end .code-end .ensures) ∙ c .before .r .given .1)
 
 pub names-checked-spec : {M : Type 1} → statement M
 names-checked-spec =

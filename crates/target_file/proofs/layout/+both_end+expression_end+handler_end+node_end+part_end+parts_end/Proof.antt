@@ -127,7 +127,8 @@ abbrev node-end-claims : ℕ → node-end-lts.Claims
 node-end-claims t = (judge-reads.Asked, judge-reads.Learnt, parts-end-below t, parts-end.Post)
 
 abbrev part-end-claims : ℕ → part-end-lts.Claims
-part-end-claims t = (cut-reads.Asked, cut-reads.Learnt, expression-end-below t, expression-end.Post, measured-end-reads.Asked, measured-end-reads.Learnt, stopped-reads.Asked, stopped-reads.Learnt)
+part-end-claims t =
+    (cut-reads.Asked, cut-reads.Learnt, expression-end-below t, expression-end.Post, measured-end-reads.Asked, measured-end-reads.Learnt, stopped-reads.Asked, stopped-reads.Learnt)
 
 abbrev parts-end-claims : ℕ → parts-end-lts.Claims
 parts-end-claims t = (part-end-below t, part-end.Post, onward-reads.Asked, onward-reads.Learnt, bind-reads.Asked, bind-reads.Learnt, both-end-below t, both-end.Post)
@@ -146,7 +147,9 @@ both-end-add-part-end t c =
 both-end-part-end-requires : (t : ℕ) → both-end-lts.Need-part-end-requires (both-end-claims t) (both-end-at t) both-end.Post
 both-end-part-end-requires t c κs =
     let entry = c .before .before .before .before in
-    let q = entry .pre .0 in let p = entry .pre .1 in (omega (arith, q, p .1 .0, p .1 .1), p .0)
+    let q = entry .pre .0 in
+    let p = entry .pre .1 in
+    (omega (arith, q, p .1 .0, p .1 .1), p .0)
 
 both-end-enum-known-middle : (t : ℕ) → both-end-lts.Need-enum-known-middle (both-end-claims t) (both-end-at t) both-end.Post
 both-end-enum-known-middle t c = search needs
@@ -155,7 +158,10 @@ both-end-handler-end-requires : (t : ℕ) → both-end-lts.Need-handler-end-requ
 both-end-handler-end-requires t c κs =
     let at-part-end = c .before .before .before in
     let entry = at-part-end .before .before .before .before .before in
-    let q = entry .pre .0 in let p = entry .pre .1 in let w = part-past _ _ _ _ _ _ _ _ _ (sym (at-part-end .part-end .ensures) ∙ c .before .middle .given .1) in (omega (arith, q, p .1 .0, p .1 .1, w .fills), p .0)
+    let q = entry .pre .0 in
+    let p = entry .pre .1 in
+    let w = part-past _ _ _ _ _ _ _ _ _ (sym (at-part-end .part-end .ensures) ∙ c .before .middle .given .1) in
+    (omega (arith, q, p .1 .0, p .1 .1, w .fills), p .0)
 
 both-end-onward-requires : (t : ℕ) → both-end-lts.Need-onward-requires (both-end-claims t) (both-end-at t) both-end.Post
 both-end-onward-requires t c κs = tt
@@ -170,7 +176,8 @@ both-end-returns t c =
     let at-bind2 = at-part-end .before in
     let at-bind = at-bind2 .before in
     let entry = at-bind .before .before .before in
-    both-on _ _ _ _ _ _ _ _ _ _ _ _ (at-bind2 .bind2 .ensures ∙ ap (λ l. bound l (entry .args .handler) 3) (at-bind .bind .ensures)) _ (sym (at-part-end .part-end .ensures) ∙ at-middle .middle .given .1) (c .onward .ensures) (c .before .handler-end .ensures)
+    both-on _ _ _ _ _ _ _ _ _ _ _ _ (at-bind2 .bind2 .ensures ∙ ap (λ l. bound l (entry .args .handler) 3) (at-bind .bind .ensures)) _
+    (sym (at-part-end .part-end .ensures) ∙ at-middle .middle .given .1) (c .onward .ensures) (c .before .handler-end .ensures)
 
 both-end-returns-2 : (t : ℕ) → both-end-lts.Need-returns-2 (both-end-claims t) (both-end-at t) both-end.Post
 both-end-returns-2 t c =
@@ -178,7 +185,8 @@ both-end-returns-2 t c =
     let at-bind2 = at-part-end .before in
     let at-bind = at-bind2 .before in
     let entry = at-bind .before .before .before in
-    both-stop _ _ _ _ _ _ _ _ _ _ _ _ (at-bind2 .bind2 .ensures ∙ ap (λ l. bound l (entry .args .handler) 3) (at-bind .bind .ensures)) _ (sym (at-part-end .part-end .ensures) ∙ c .before .r .given .1)
+    both-stop _ _ _ _ _ _ _ _ _ _ _ _ (at-bind2 .bind2 .ensures ∙ ap (λ l. bound l (entry .args .handler) 3) (at-bind .bind .ensures)) _
+    (sym (at-part-end .part-end .ensures) ∙ c .before .r .given .1)
 
 abbrev expression-end-Inv-loop : expression-end-lts.InvT-loop
 expression-end-Inv-loop file params names level start at₀ seen₀ at seen =
@@ -187,38 +195,51 @@ expression-end-Inv-loop file params names level start at₀ seen₀ at seen =
 abbrev expression-end-μ-loop : expression-end-lts.MeasureT-loop
 expression-end-μ-loop file params names level start at₀ seen₀ at seen = length file - at
 
-expression-end-loop-holds : (t : ℕ) → expression-end-lts.Need-loop-holds (expression-end-claims t) (expression-end-at t) expression-end.Post expression-end-Inv-loop expression-end-μ-loop
+expression-end-loop-holds : (t : ℕ) → expression-end-lts.Need-loop-holds (expression-end-claims t) (expression-end-at t) expression-end.Post expression-end-Inv-loop
+    expression-end-μ-loop
 expression-end-loop-holds t c = (omega arith, c .before .before .pre .1 .1, refl)
 
-expression-end-tag-at-requires : (t : ℕ) → expression-end-lts.Need-tag-at-requires (expression-end-claims t) (expression-end-at t) expression-end.Post expression-end-Inv-loop expression-end-μ-loop
+expression-end-tag-at-requires : (t : ℕ) → expression-end-lts.Need-tag-at-requires (expression-end-claims t) (expression-end-at t) expression-end.Post expression-end-Inv-loop
+    expression-end-μ-loop
 expression-end-tag-at-requires t c κs = tt
 
-expression-end-node-end-requires : (t : ℕ) → expression-end-lts.Need-node-end-requires (expression-end-claims t) (expression-end-at t) expression-end.Post expression-end-Inv-loop expression-end-μ-loop
+expression-end-node-end-requires : (t : ℕ) → expression-end-lts.Need-node-end-requires (expression-end-claims t) (expression-end-at t) expression-end.Post expression-end-Inv-loop
+    expression-end-μ-loop
 expression-end-node-end-requires t c κs =
     let entry = c .before .before .before .before in
-    let q = entry .pre .0 in let p = entry .pre .1 in let v = c .before .loop .inv in (omega (arith, q, v .0, v .1), (p .0, record { small = omega (arith, p .0, v .1); is = c .tag-at .ensures }))
+    let q = entry .pre .0 in
+    let p = entry .pre .1 in
+    let v = c .before .loop .inv in
+    (omega (arith, q, v .0, v .1), (p .0, record { small = omega (arith, p .0, v .1); is = c .tag-at .ensures }))
 
-expression-end-enum-known-next : (t : ℕ) → expression-end-lts.Need-enum-known-next (expression-end-claims t) (expression-end-at t) expression-end.Post expression-end-Inv-loop expression-end-μ-loop
+expression-end-enum-known-next : (t : ℕ) → expression-end-lts.Need-enum-known-next (expression-end-claims t) (expression-end-at t) expression-end.Post expression-end-Inv-loop
+    expression-end-μ-loop
 expression-end-enum-known-next t c = search needs
 
-expression-end-bind-requires : (t : ℕ) → expression-end-lts.Need-bind-requires (expression-end-claims t) (expression-end-at t) expression-end.Post expression-end-Inv-loop expression-end-μ-loop
+expression-end-bind-requires : (t : ℕ) → expression-end-lts.Need-bind-requires (expression-end-claims t) (expression-end-at t) expression-end.Post expression-end-Inv-loop
+    expression-end-μ-loop
 expression-end-bind-requires t c κs = tt
 
-expression-end-loop-less : (t : ℕ) → expression-end-lts.Need-loop-less (expression-end-claims t) (expression-end-at t) expression-end.Post expression-end-Inv-loop expression-end-μ-loop
+expression-end-loop-less : (t : ℕ) → expression-end-lts.Need-loop-less (expression-end-claims t) (expression-end-at t) expression-end.Post expression-end-Inv-loop
+    expression-end-μ-loop
 expression-end-loop-less t c =
     let at-node-end = c .before .before .before .before in
     let at-tag-at = at-node-end .before in
     let m = onward-moves _ _ _ _ _ _ (at-tag-at .tag-at .ensures) (at-node-end .node-end .ensures) _ _ (c .before .before .next .given .1) in omega (arith, m .here, m .forward)
 
-expression-end-loop-again : (t : ℕ) → expression-end-lts.Need-loop-again (expression-end-claims t) (expression-end-at t) expression-end.Post expression-end-Inv-loop expression-end-μ-loop
+expression-end-loop-again : (t : ℕ) → expression-end-lts.Need-loop-again (expression-end-claims t) (expression-end-at t) expression-end.Post expression-end-Inv-loop
+    expression-end-μ-loop
 expression-end-loop-again t c =
     let at-next = c .before .before in
     let at-node-end = at-next .before .before in
     let at-tag-at = at-node-end .before in
     let at-loop = at-tag-at .before in
-    let m = onward-moves _ _ _ _ _ _ (at-tag-at .tag-at .ensures) (at-node-end .node-end .ensures) _ _ (at-next .next .given .1) in let v = at-loop .loop .inv in (omega (arith, v .0, m .forward), m .inside, expression-onward _ _ _ _ _ _ (at-tag-at .tag-at .ensures) (at-node-end .node-end .ensures) _ _ _ (at-next .next .given .1) (c .bind .ensures) ∙ v .2)
+    let m = onward-moves _ _ _ _ _ _ (at-tag-at .tag-at .ensures) (at-node-end .node-end .ensures) _ _ (at-next .next .given .1) in
+    let v = at-loop .loop .inv in
+    (omega (arith, v .0, m .forward), m .inside, expression-onward _ _ _ _ _ _ (at-tag-at .tag-at .ensures) (at-node-end .node-end .ensures) _ _ _ (at-next .next .given .1) (c .bind .ensures) ∙ v .2)
 
-expression-end-enum-known-next-2 : (t : ℕ) → expression-end-lts.Need-enum-known-next-2 (expression-end-claims t) (expression-end-at t) expression-end.Post expression-end-Inv-loop expression-end-μ-loop
+expression-end-enum-known-next-2 : (t : ℕ) → expression-end-lts.Need-enum-known-next-2 (expression-end-claims t) (expression-end-at t) expression-end.Post expression-end-Inv-loop
+    expression-end-μ-loop
 expression-end-enum-known-next-2 t c = search needs
 
 expression-end-returns : (t : ℕ) → expression-end-lts.Need-returns (expression-end-claims t) (expression-end-at t) expression-end.Post expression-end-Inv-loop expression-end-μ-loop
@@ -228,10 +249,12 @@ expression-end-returns t c =
     let at-loop = at-tag-at .before in
     expression-ended _ _ _ _ _ _ (at-tag-at .tag-at .ensures) (at-node-end .node-end .ensures) _ (c .before .next2 .given .1) ∙ at-loop .loop .inv .2
 
-expression-end-enum-known-r : (t : ℕ) → expression-end-lts.Need-enum-known-r (expression-end-claims t) (expression-end-at t) expression-end.Post expression-end-Inv-loop expression-end-μ-loop
+expression-end-enum-known-r : (t : ℕ) → expression-end-lts.Need-enum-known-r (expression-end-claims t) (expression-end-at t) expression-end.Post expression-end-Inv-loop
+    expression-end-μ-loop
 expression-end-enum-known-r t c = search needs
 
-expression-end-returns-2 : (t : ℕ) → expression-end-lts.Need-returns-2 (expression-end-claims t) (expression-end-at t) expression-end.Post expression-end-Inv-loop expression-end-μ-loop
+expression-end-returns-2 : (t : ℕ) → expression-end-lts.Need-returns-2 (expression-end-claims t) (expression-end-at t) expression-end.Post expression-end-Inv-loop
+    expression-end-μ-loop
 expression-end-returns-2 t c =
     let at-node-end = c .before .before .before in
     let at-tag-at = at-node-end .before in
@@ -311,16 +334,18 @@ part-end-add-expression-end t c = search needs
 part-end-expression-end-requires : (t : ℕ) → part-end-lts.Need-expression-end-requires (part-end-claims t) (part-end-at t) part-end.Post
 part-end-expression-end-requires t c κs =
     let entry = c .before .before .before .before in
-    let q = entry .pre .0 in let h = c .before .if1 .left in (omega (arith, q), (entry .pre .1, omega (arith, h)))
+    let q = entry .pre .0 in
+    let h = c .before .if1 .left in
+    (omega (arith, q), (entry .pre .1, omega (arith, h)))
 
 part-end-measured-end-requires : (t : ℕ) → part-end-lts.Need-measured-end-requires (part-end-claims t) (part-end-at t) part-end.Post
 part-end-measured-end-requires t c κs = tt
 
 part-end-returns-2 : (t : ℕ) → part-end-lts.Need-returns-2 (part-end-claims t) (part-end-at t) part-end.Post
 part-end-returns-2 t c =
-    let at-before = c .before .before in
-    let at-if1 = at-before .before in
-    c .measured-end .ensures ∙ part-in _ _ _ _ _ _ _ _ (at-if1 .if1 .left) (at-before .if2 .taken) (c .before .expression-end .ensures)
+    let at-if2 = c .before .before in
+    let at-if1 = at-if2 .before in
+    c .measured-end .ensures ∙ part-in _ _ _ _ _ _ _ _ (at-if1 .if1 .left) (at-if2 .if2 .taken) (c .before .expression-end .ensures)
 
 part-end-stopped-requires : (t : ℕ) → part-end-lts.Need-stopped-requires (part-end-claims t) (part-end-at t) part-end.Post
 part-end-stopped-requires t c κs = tt
@@ -357,7 +382,9 @@ parts-end-add-part-end t c =
 parts-end-part-end-requires : (t : ℕ) → parts-end-lts.Need-part-end-requires (parts-end-claims t) (parts-end-at t) parts-end.Post
 parts-end-part-end-requires t c κs =
     let entry = c .before .before .before .before .before in
-    let q = entry .pre .0 in let f = branch-fields _ _ (entry .pre .1 .1 .is) (c .before .node7 .given .1) in (omega (arith, q, f .here, f .forward, f .inside), entry .pre .1 .0)
+    let q = entry .pre .0 in
+    let f = branch-fields _ _ (entry .pre .1 .1 .is) (c .before .node7 .given .1) in
+    (omega (arith, q, f .here, f .forward, f .inside), entry .pre .1 .0)
 
 parts-end-onward-requires : (t : ℕ) → parts-end-lts.Need-onward-requires (parts-end-claims t) (parts-end-at t) parts-end.Post
 parts-end-onward-requires t c κs = tt
@@ -376,7 +403,9 @@ parts-end-add-part-end-2 t c =
 parts-end-part-end-requires-2 : (t : ℕ) → parts-end-lts.Need-part-end-requires-2 (parts-end-claims t) (parts-end-at t) parts-end.Post
 parts-end-part-end-requires-2 t c κs =
     let entry = c .before .before .before .before .before .before in
-    let q = entry .pre .0 in let f = continuation-fields _ _ (entry .pre .1 .1 .is) (c .before .before .node8 .given .1) in (omega (arith, q, f .here, f .forward, f .inside), entry .pre .1 .0)
+    let q = entry .pre .0 in
+    let f = continuation-fields _ _ (entry .pre .1 .1 .is) (c .before .before .node8 .given .1) in
+    (omega (arith, q, f .here, f .forward, f .inside), entry .pre .1 .0)
 
 parts-end-onward-requires-2 : (t : ℕ) → parts-end-lts.Need-onward-requires-2 (parts-end-claims t) (parts-end-at t) parts-end.Post
 parts-end-onward-requires-2 t c κs = tt
@@ -387,7 +416,9 @@ parts-end-enum-known-node-9 t c = search needs
 parts-end-both-end-requires : (t : ℕ) → parts-end-lts.Need-both-end-requires (parts-end-claims t) (parts-end-at t) parts-end.Post
 parts-end-both-end-requires t c κs =
     let entry = c .before .before .before .before .before in
-    let q = entry .pre .0 in let f = both-fields _ _ (entry .pre .1 .1 .is) (c .before .node9 .given .1) in (omega (arith, q), (entry .pre .1 .0, (f .forward, f .inside)))
+    let q = entry .pre .0 in
+    let f = both-fields _ _ (entry .pre .1 .1 .is) (c .before .node9 .given .1) in
+    (omega (arith, q), (entry .pre .1 .0, (f .forward, f .inside)))
 
 parts-end-enum-known-node-10 : (t : ℕ) → parts-end-lts.Need-enum-known-node-10 (parts-end-claims t) (parts-end-at t) parts-end.Post
 parts-end-enum-known-node-10 t c = search needs

@@ -72,7 +72,8 @@ returns-3 c =
     let at-version-end = at-enum-told2 .before .before in
     let at-enum-told = at-version-end .before in
     let at-mark-end = at-enum-told .before .before in
-    code-3 _ _ _ _ (sym (at-mark-end .mark-end .ensures) ∙ at-enum-told .enum-told .given .1) _ (sym (at-version-end .version-end .ensures) ∙ at-enum-told2 .enum-told2 .given .1) _ (sym (at-functions-at .functions-at .ensures) ∙ c .before .r3 .given .1)
+    code-3 _ _ _ _ (sym (at-mark-end .mark-end .ensures) ∙ at-enum-told .enum-told .given .1) _ (sym (at-version-end .version-end .ensures) ∙ at-enum-told2 .enum-told2 .given .1) _
+    (sym (at-functions-at .functions-at .ensures) ∙ c .before .r3 .given .1)
 
 returns-4 : tie.Need-returns-4
 returns-4 c =
@@ -83,7 +84,8 @@ returns-4 c =
     let at-version-end = at-enum-told2 .before .before in
     let at-enum-told = at-version-end .before in
     let at-mark-end = at-enum-told .before .before in
-    code-4 _ _ _ _ (sym (at-mark-end .mark-end .ensures) ∙ at-enum-told .enum-told .given .1) _ (sym (at-version-end .version-end .ensures) ∙ at-enum-told2 .enum-told2 .given .1) _ (sym (at-functions-at .functions-at .ensures) ∙ at-n .n .given .1) _ (sym (at-functions-end .functions-end .ensures) ∙ c .before .r4 .given .1)
+    code-4 _ _ _ _ (sym (at-mark-end .mark-end .ensures) ∙ at-enum-told .enum-told .given .1) _ (sym (at-version-end .version-end .ensures) ∙ at-enum-told2 .enum-told2 .given .1) _
+    (sym (at-functions-at .functions-at .ensures) ∙ at-n .n .given .1) _ (sym (at-functions-end .functions-end .ensures) ∙ c .before .r4 .given .1)
 
 returns-5 : tie.Need-returns-5
 returns-5 c =
@@ -94,7 +96,9 @@ returns-5 c =
     let at-version-end = at-enum-told2 .before .before in
     let at-enum-told = at-version-end .before in
     let at-mark-end = at-enum-told .before .before in
-    c .file-end .ensures ∙ code-5 _ _ _ _ (sym (at-mark-end .mark-end .ensures) ∙ at-enum-told .enum-told .given .1) _ (sym (at-version-end .version-end .ensures) ∙ at-enum-told2 .enum-told2 .given .1) _ (sym (at-functions-at .functions-at .ensures) ∙ at-n .n .given .1) _ (sym (at-functions-end .functions-end .ensures) ∙ c .before .before .end .given .1)
+    c .file-end .ensures ∙ code-5 _ _ _ _ (sym (at-mark-end .mark-end .ensures) ∙ at-enum-told .enum-told .given .1) _
+    (sym (at-version-end .version-end .ensures) ∙ at-enum-told2 .enum-told2 .given .1) _ (sym (at-functions-at .functions-at .ensures) ∙ at-n .n .given .1) _
+    (sym (at-functions-end .functions-end .ensures) ∙ c .before .before .end .given .1)
 
 pub code-end-spec : {M : Type 1} → statement M
 code-end-spec =

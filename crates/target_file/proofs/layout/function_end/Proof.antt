@@ -29,7 +29,9 @@ entry-kinds-requires c κs =
 add-body-end : tie.Need-add-body-end
 add-body-end c =
     let at-count-at = c .before .before .before .before in
-    let h = function-few false [] _ _ _ (sym (at-count-at .count-at .ensures) ∙ c .before .before .n .given .1) in let i = h .1 in omega arith
+    let h = function-few false [] _ _ _ (sym (at-count-at .count-at .ensures) ∙ c .before .before .n .given .1) in
+    let i = h .1 in
+    omega arith
 
 body-end-requires : tie.Need-body-end-requires
 body-end-requires c κs = search needs

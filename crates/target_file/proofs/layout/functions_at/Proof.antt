@@ -51,10 +51,10 @@ outside-requires-2 c κs = search needs
 
 returns-4 : tie.Need-returns-4
 returns-4 c =
-    let at-before = c .before .before in
-    let at-pair = at-before .before in
+    let at-if3 = c .before .before in
+    let at-pair = at-if3 .before in
     let at-if2 = at-pair .before .before .before in
-    c .outside2 .ensures ∙ functions-many _ _ _ (at-if2 .if2 .left) (at-pair .pair .ensures) (at-before .if3 .left) (c .before .if4 .taken)
+    c .outside2 .ensures ∙ functions-many _ _ _ (at-if2 .if2 .left) (at-pair .pair .ensures) (at-if3 .if3 .left) (c .before .if4 .taken)
 
 returns-5 : tie.Need-returns-5
 returns-5 c =

@@ -43,7 +43,8 @@ loop-again c =
     let at-loop-test = at-function-end .before in
     let at-loop = at-loop-test .before in
     let entry = entry-before-at-loop at-loop in
-    many-turn (function (entry .args .names) (entry .args .params .now)) _ _ _ _ (at-loop-test .loop-test .taken) (sym (at-function-end .function-end .ensures) ∙ c .before .next .given .1) ∙ at-loop .loop .inv
+    many-turn (function (entry .args .names) (entry .args .params .now)) _ _ _ _ (at-loop-test .loop-test .taken)
+    (sym (at-function-end .function-end .ensures) ∙ c .before .next .given .1) ∙ at-loop .loop .inv
 
 enum-known-r : tie.Need-enum-known-r Inv-loop μ-loop
 enum-known-r c = search needs
@@ -54,7 +55,8 @@ returns c =
     let at-loop-test = at-function-end .before in
     let at-loop = at-loop-test .before in
     let entry = entry-before-at-loop at-loop in
-    many-halt (function (entry .args .names) (entry .args .params .now)) _ _ _ _ (at-loop-test .loop-test .taken) (sym (at-function-end .function-end .ensures) ∙ c .before .r .given .1) ∙ at-loop .loop .inv
+    many-halt (function (entry .args .names) (entry .args .params .now)) _ _ _ _ (at-loop-test .loop-test .taken)
+    (sym (at-function-end .function-end .ensures) ∙ c .before .r .given .1) ∙ at-loop .loop .inv
 
 returns-2 : tie.Need-returns-2 Inv-loop μ-loop
 returns-2 c =

@@ -30,7 +30,9 @@ shared-slice-read-pair c = let f = laid-file _ (c .before .before .pre) in let w
 shared-slice-read-pair-2 : tie.Need-shared-slice-read-pair-2 Inv-loop μ-loop
 shared-slice-read-pair-2 c =
     let entry = c .before .before .before in
-    let f = laid-file _ (entry .pre) in let w = f .whole in omega arith
+    let f = laid-file _ (entry .pre) in
+    let w = f .whole in
+    omega arith
 
 pair-requires : tie.Need-pair-requires Inv-loop μ-loop
 pair-requires c κs = tt
@@ -43,65 +45,119 @@ loop-holds c =
 add-body : tie.Need-add-body Inv-loop μ-loop
 add-body c =
     let entry = c .before .before .before .before .before .before in
-    let f = laid-file _ (entry .pre) in let n = c .before .before .pair .ensures ∙ f .counted in let m = f .most in let t = c .loop-test .taken in let h = turn-head _ _ _ _ _ _ (c .before .loop .inv) (omega (arith, n, t)) in let z = entry .pre .short in omega (arith, n, h .inside, h .sized)
+    let f = laid-file _ (entry .pre) in
+    let n = c .before .before .pair .ensures ∙ f .counted in
+    let m = f .most in
+    let t = c .loop-test .taken in
+    let h = turn-head _ _ _ _ _ _ (c .before .loop .inv) (omega (arith, n, t)) in
+    let z = entry .pre .short in
+    omega (arith, n, h .inside, h .sized)
 
 shared-slice-read-params : tie.Need-shared-slice-read-params Inv-loop μ-loop
 shared-slice-read-params c =
-    let at-before = c .before .before in
-    let at-pair = at-before .before in
+    let at-loop = c .before .before in
+    let at-pair = at-loop .before in
     let entry = entry-before-pair at-pair in
-    let f = laid-file _ (entry .pre) in let n = at-pair .pair .ensures ∙ f .counted in let m = f .most in let t = c .before .loop-test .taken in let h = turn-head _ _ _ _ _ _ (at-before .loop .inv) (omega (arith, n, t)) in let z = entry .pre .short in omega (arith, n, h .inside, h .sized)
+    let f = laid-file _ (entry .pre) in
+    let n = at-pair .pair .ensures ∙ f .counted in
+    let m = f .most in
+    let t = c .before .loop-test .taken in
+    let h = turn-head _ _ _ _ _ _ (at-loop .loop .inv) (omega (arith, n, t)) in
+    let z = entry .pre .short in
+    omega (arith, n, h .inside, h .sized)
 
 array-write-params : tie.Need-array-write-params Inv-loop μ-loop
 array-write-params c =
-    let at-before = c .before .before in
-    let at-pair = at-before .before in
+    let at-loop = c .before .before in
+    let at-pair = at-loop .before in
     let entry = entry-before-pair at-pair in
-    let f = laid-file _ (entry .pre) in let n = at-pair .pair .ensures ∙ f .counted in let m = f .most in let t = c .before .loop-test .taken in let h = turn-head _ _ _ _ _ _ (at-before .loop .inv) (omega (arith, n, t)) in let z = entry .pre .short in omega (arith, n, h .inside, h .sized)
+    let f = laid-file _ (entry .pre) in
+    let n = at-pair .pair .ensures ∙ f .counted in
+    let m = f .most in
+    let t = c .before .loop-test .taken in
+    let h = turn-head _ _ _ _ _ _ (at-loop .loop .inv) (omega (arith, n, t)) in
+    let z = entry .pre .short in
+    omega (arith, n, h .inside, h .sized)
 
 cast-starts : tie.Need-cast-starts Inv-loop μ-loop
 cast-starts c =
-    let at-before = c .before .before in
-    let at-pair = at-before .before in
+    let at-loop = c .before .before in
+    let at-pair = at-loop .before in
     let entry = entry-before-pair at-pair in
-    let f = laid-file _ (entry .pre) in let n = at-pair .pair .ensures ∙ f .counted in let m = f .most in let t = c .before .loop-test .taken in let h = turn-head _ _ _ _ _ _ (at-before .loop .inv) (omega (arith, n, t)) in let z = entry .pre .short in omega (arith, n, h .inside, h .sized)
+    let f = laid-file _ (entry .pre) in
+    let n = at-pair .pair .ensures ∙ f .counted in
+    let m = f .most in
+    let t = c .before .loop-test .taken in
+    let h = turn-head _ _ _ _ _ _ (at-loop .loop .inv) (omega (arith, n, t)) in
+    let z = entry .pre .short in
+    omega (arith, n, h .inside, h .sized)
 
 mul-starts : tie.Need-mul-starts Inv-loop μ-loop
 mul-starts c =
-    let at-before = c .before .before in
-    let at-pair = at-before .before in
+    let at-loop = c .before .before in
+    let at-pair = at-loop .before in
     let entry = entry-before-pair at-pair in
-    let f = laid-file _ (entry .pre) in let n = at-pair .pair .ensures ∙ f .counted in let m = f .most in let t = c .before .loop-test .taken in let h = turn-head _ _ _ _ _ _ (at-before .loop .inv) (omega (arith, n, t)) in let z = entry .pre .short in omega (arith, n, h .inside, h .sized)
+    let f = laid-file _ (entry .pre) in
+    let n = at-pair .pair .ensures ∙ f .counted in
+    let m = f .most in
+    let t = c .before .loop-test .taken in
+    let h = turn-head _ _ _ _ _ _ (at-loop .loop .inv) (omega (arith, n, t)) in
+    let z = entry .pre .short in
+    omega (arith, n, h .inside, h .sized)
 
 array-write-starts : tie.Need-array-write-starts Inv-loop μ-loop
 array-write-starts c =
-    let at-before = c .before .before in
-    let at-pair = at-before .before in
+    let at-loop = c .before .before in
+    let at-pair = at-loop .before in
     let entry = entry-before-pair at-pair in
-    let f = laid-file _ (entry .pre) in let n = at-pair .pair .ensures ∙ f .counted in let m = f .most in let t = c .before .loop-test .taken in let h = turn-head _ _ _ _ _ _ (at-before .loop .inv) (omega (arith, n, t)) in let z = entry .pre .short in omega (arith, n, h .inside, h .sized)
+    let f = laid-file _ (entry .pre) in
+    let n = at-pair .pair .ensures ∙ f .counted in
+    let m = f .most in
+    let t = c .before .loop-test .taken in
+    let h = turn-head _ _ _ _ _ _ (at-loop .loop .inv) (omega (arith, n, t)) in
+    let z = entry .pre .short in
+    omega (arith, n, h .inside, h .sized)
 
 add-field : tie.Need-add-field Inv-loop μ-loop
 add-field c =
-    let at-before = c .before .before in
-    let at-pair = at-before .before in
+    let at-loop = c .before .before in
+    let at-pair = at-loop .before in
     let entry = entry-before-pair at-pair in
-    let f = laid-file _ (entry .pre) in let n = at-pair .pair .ensures ∙ f .counted in let m = f .most in let t = c .before .loop-test .taken in let h = turn-head _ _ _ _ _ _ (at-before .loop .inv) (omega (arith, n, t)) in let z = entry .pre .short in omega (arith, n, h .inside, h .sized)
+    let f = laid-file _ (entry .pre) in
+    let n = at-pair .pair .ensures ∙ f .counted in
+    let m = f .most in
+    let t = c .before .loop-test .taken in
+    let h = turn-head _ _ _ _ _ _ (at-loop .loop .inv) (omega (arith, n, t)) in
+    let z = entry .pre .short in
+    omega (arith, n, h .inside, h .sized)
 
 shared-slice-read-pair-3 : tie.Need-shared-slice-read-pair-3 Inv-loop μ-loop
 shared-slice-read-pair-3 c =
-    let at-before = c .before .before in
-    let at-loop = at-before .before in
+    let at-loop-test = c .before .before in
+    let at-loop = at-loop-test .before in
     let at-pair = at-loop .before in
     let entry = entry-before-pair at-pair in
-    let f = laid-file _ (entry .pre) in let n = at-pair .pair .ensures ∙ f .counted in let m = f .most in let t = at-before .loop-test .taken in let h = turn-head _ _ _ _ _ _ (at-loop .loop .inv) (omega (arith, n, t)) in let z = entry .pre .short in omega (arith, n, h .inside, h .sized)
+    let f = laid-file _ (entry .pre) in
+    let n = at-pair .pair .ensures ∙ f .counted in
+    let m = f .most in
+    let t = at-loop-test .loop-test .taken in
+    let h = turn-head _ _ _ _ _ _ (at-loop .loop .inv) (omega (arith, n, t)) in
+    let z = entry .pre .short in
+    omega (arith, n, h .inside, h .sized)
 
 add-pair : tie.Need-add-pair Inv-loop μ-loop
 add-pair c =
-    let at-before = c .before .before in
-    let at-loop = at-before .before in
+    let at-loop-test = c .before .before in
+    let at-loop = at-loop-test .before in
     let at-pair = at-loop .before in
     let entry = entry-before-pair at-pair in
-    let f = laid-file _ (entry .pre) in let n = at-pair .pair .ensures ∙ f .counted in let m = f .most in let t = at-before .loop-test .taken in let h = turn-head _ _ _ _ _ _ (at-loop .loop .inv) (omega (arith, n, t)) in let z = entry .pre .short in omega (arith, n, h .inside, h .sized)
+    let f = laid-file _ (entry .pre) in
+    let n = at-pair .pair .ensures ∙ f .counted in
+    let m = f .most in
+    let t = at-loop-test .loop-test .taken in
+    let h = turn-head _ _ _ _ _ _ (at-loop .loop .inv) (omega (arith, n, t)) in
+    let z = entry .pre .short in
+    omega (arith, n, h .inside, h .sized)
 
 shared-slice-read-pair-4 : tie.Need-shared-slice-read-pair-4 Inv-loop μ-loop
 shared-slice-read-pair-4 c =
@@ -109,7 +165,13 @@ shared-slice-read-pair-4 c =
     let at-loop = at-loop-test .before in
     let at-pair = at-loop .before in
     let entry = entry-before-pair at-pair in
-    let f = laid-file _ (entry .pre) in let n = at-pair .pair .ensures ∙ f .counted in let m = f .most in let t = at-loop-test .loop-test .taken in let h = turn-head _ _ _ _ _ _ (at-loop .loop .inv) (omega (arith, n, t)) in let z = entry .pre .short in omega (arith, n, h .inside, h .sized)
+    let f = laid-file _ (entry .pre) in
+    let n = at-pair .pair .ensures ∙ f .counted in
+    let m = f .most in
+    let t = at-loop-test .loop-test .taken in
+    let h = turn-head _ _ _ _ _ _ (at-loop .loop .inv) (omega (arith, n, t)) in
+    let z = entry .pre .short in
+    omega (arith, n, h .inside, h .sized)
 
 pair-requires-2 : tie.Need-pair-requires-2 Inv-loop μ-loop
 pair-requires-2 c κs = tt
@@ -120,7 +182,14 @@ add-at c =
     let at-loop = at-loop-test .before in
     let at-pair = at-loop .before in
     let entry = entry-before-pair at-pair in
-    let f = laid-file _ (entry .pre) in let n = at-pair .pair .ensures ∙ f .counted in let m = f .most in let t = at-loop-test .loop-test .taken in let h = turn-head _ _ _ _ _ _ (at-loop .loop .inv) (omega (arith, n, t)) in let z = entry .pre .short in let p = c .pair2 .ensures in omega (arith, n, h .inside, h .sized, p)
+    let f = laid-file _ (entry .pre) in
+    let n = at-pair .pair .ensures ∙ f .counted in
+    let m = f .most in
+    let t = at-loop-test .loop-test .taken in
+    let h = turn-head _ _ _ _ _ _ (at-loop .loop .inv) (omega (arith, n, t)) in
+    let z = entry .pre .short in
+    let p = c .pair2 .ensures in
+    omega (arith, n, h .inside, h .sized, p)
 
 add-i : tie.Need-add-i Inv-loop μ-loop
 add-i c = search needs
@@ -134,12 +203,18 @@ loop-again c =
     let at-loop = at-loop-test .before in
     let at-pair = at-loop .before in
     let entry = entry-before-pair at-pair in
-    let f = laid-file _ (entry .pre) in let n = at-pair .pair .ensures ∙ f .counted in let m = f .most in let t = at-loop-test .loop-test .taken in turn-on _ _ _ _ _ _ (at-loop .loop .inv) (omega (arith, n, t)) m _ _ _ _ refl (c .pair2 .ensures) refl refl
+    let f = laid-file _ (entry .pre) in
+    let n = at-pair .pair .ensures ∙ f .counted in
+    let m = f .most in
+    let t = at-loop-test .loop-test .taken in
+    turn-on _ _ _ _ _ _ (at-loop .loop .inv) (omega (arith, n, t)) m _ _ _ _ refl (c .pair2 .ensures) refl refl
 
 returns : tie.Need-returns Inv-loop μ-loop
 returns c =
     let entry = c .before .before .before .before .before .before in
-    let f = laid-file _ (entry .pre) in let n = c .before .before .pair .ensures ∙ f .counted in turn-done _ _ _ _ _ (c .before .loop .inv) (omega (arith, n, c .loop-test .left))
+    let f = laid-file _ (entry .pre) in
+    let n = c .before .before .pair .ensures ∙ f .counted in
+    turn-done _ _ _ _ _ (c .before .loop .inv) (omega (arith, n, c .loop-test .left))
 
 pub tables-of-spec : {M : Type 1} → statement M
 tables-of-spec =

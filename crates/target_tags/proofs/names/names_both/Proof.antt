@@ -46,12 +46,13 @@ and-also-requires-3 c κs = search needs
 returns : tie.Need-returns
 unfolding bothNames
 returns c =
-    let at-before = c .before .before in
-    let at-binds-slot3 = at-before .before in
+    let at-differs = c .before .before in
+    let at-binds-slot3 = at-differs .before in
     let at-and-also = at-binds-slot3 .before in
     let at-binds-slot2 = at-and-also .before in
     let at-binds-slot = at-binds-slot2 .before in
-    c .and-also3 .ensures ∙ also (at-and-also .and-also .ensures ∙ also (at-binds-slot .binds-slot .ensures) (at-binds-slot2 .binds-slot2 .ensures)) (c .before .and-also2 .ensures ∙ also (at-binds-slot3 .binds-slot3 .ensures) (at-before .differs .ensures))
+    c .and-also3 .ensures ∙ also (at-and-also .and-also .ensures ∙ also (at-binds-slot .binds-slot .ensures) (at-binds-slot2 .binds-slot2 .ensures))
+    (c .before .and-also2 .ensures ∙ also (at-binds-slot3 .binds-slot3 .ensures) (at-differs .differs .ensures))
 
 pub names-both-spec : {M : Type 1} → statement M
 names-both-spec =

@@ -57,14 +57,16 @@ and-also-requires-4 c κs = search needs
 returns : tie.Need-returns
 unfolding jumpNames
 returns c =
-    let at-before = c .before .before in
-    let at-reads-values = at-before .before in
+    let at-and-also2 = c .before .before in
+    let at-reads-values = at-and-also2 .before in
     let at-counts = at-reads-values .before in
     let at-and-also = at-counts .before in
     let at-reads-slot2 = at-and-also .before in
     let at-reads-slot = at-reads-slot2 .before in
     let at-names-function = at-reads-slot .before in
-    c .and-also4 .ensures ∙ also (at-names-function .names-function .ensures) (c .before .and-also3 .ensures ∙ also (at-and-also .and-also .ensures ∙ also (at-reads-slot .reads-slot .ensures) (at-reads-slot2 .reads-slot2 .ensures)) (at-before .and-also2 .ensures ∙ also (at-counts .counts .ensures) (at-reads-values .reads-values .ensures)))
+    c .and-also4 .ensures ∙ also (at-names-function .names-function .ensures)
+    (c .before .and-also3 .ensures ∙ also (at-and-also .and-also .ensures ∙ also (at-reads-slot .reads-slot .ensures) (at-reads-slot2 .reads-slot2 .ensures)) (at-and-also2
+    .and-also2 .ensures ∙ also (at-counts .counts .ensures) (at-reads-values .reads-values .ensures)))
 
 pub names-jump-spec : {M : Type 1} → statement M
 names-jump-spec =

@@ -157,17 +157,20 @@ unfolding namesOf
 returns-2 c =
     let at-tag2 = c .before .before .before .before in
     let entry = at-tag2 .before .before .before .before in
-    c .and-also .ensures ∙ also (c .before .before .binds-slot2 .ensures) (c .before .reads-slot .ensures) ∙ sym (ap (namesOf (entry .args .params .now) (entry .args .kinds) (entry .args .file .now) (entry .args .at)) (at-tag2 .tag2 .given .1))
+    c .and-also .ensures ∙ also (c .before .before .binds-slot2 .ensures) (c .before .reads-slot .ensures) ∙ sym
+    (ap (namesOf (entry .args .params .now) (entry .args .kinds) (entry .args .file .now) (entry .args .at)) (at-tag2 .tag2 .given .1))
 
 returns-3 : tie.Need-returns-3
 unfolding namesOf
 returns-3 c =
-    let at-before = c .before .before in
-    let at-reads-slot2 = at-before .before in
+    let at-reads-slot3 = c .before .before in
+    let at-reads-slot2 = at-reads-slot3 .before in
     let at-binds-slot3 = at-reads-slot2 .before in
     let at-tag3 = at-binds-slot3 .before .before in
     let entry = at-tag3 .before .before .before .before in
-    c .and-also3 .ensures ∙ also (at-binds-slot3 .binds-slot3 .ensures) (c .before .and-also2 .ensures ∙ also (at-reads-slot2 .reads-slot2 .ensures) (at-before .reads-slot3 .ensures)) ∙ sym (ap (namesOf (entry .args .params .now) (entry .args .kinds) (entry .args .file .now) (entry .args .at)) (at-tag3 .tag3 .given .1))
+    c .and-also3 .ensures ∙ also (at-binds-slot3 .binds-slot3 .ensures)
+    (c .before .and-also2 .ensures ∙ also (at-reads-slot2 .reads-slot2 .ensures) (at-reads-slot3 .reads-slot3 .ensures)) ∙ sym
+    (ap (namesOf (entry .args .params .now) (entry .args .kinds) (entry .args .file .now) (entry .args .at)) (at-tag3 .tag3 .given .1))
 
 returns-4 : tie.Need-returns-4
 unfolding namesOf
@@ -180,7 +183,8 @@ unfolding namesOf
 returns-5 c =
     let at-tag5 = c .before .before .before .before in
     let entry = at-tag5 .before .before .before .before in
-    c .and-also4 .ensures ∙ also (c .before .before .reads-slot4 .ensures) (c .before .reads-slot5 .ensures) ∙ sym (ap (namesOf (entry .args .params .now) (entry .args .kinds) (entry .args .file .now) (entry .args .at)) (at-tag5 .tag5 .given .1))
+    c .and-also4 .ensures ∙ also (c .before .before .reads-slot4 .ensures) (c .before .reads-slot5 .ensures) ∙ sym
+    (ap (namesOf (entry .args .params .now) (entry .args .kinds) (entry .args .file .now) (entry .args .at)) (at-tag5 .tag5 .given .1))
 
 returns-6 : tie.Need-returns-6
 unfolding namesOf
@@ -193,14 +197,16 @@ unfolding namesOf
 returns-7 c =
     let at-tag7 = c .before .before .before .before in
     let entry = at-tag7 .before .before .before .before in
-    c .and-also5 .ensures ∙ also (c .before .before .reads-slot7 .ensures) (c .before .reads-slot8 .ensures) ∙ sym (ap (namesOf (entry .args .params .now) (entry .args .kinds) (entry .args .file .now) (entry .args .at)) (at-tag7 .tag7 .given .1))
+    c .and-also5 .ensures ∙ also (c .before .before .reads-slot7 .ensures) (c .before .reads-slot8 .ensures) ∙ sym
+    (ap (namesOf (entry .args .params .now) (entry .args .kinds) (entry .args .file .now) (entry .args .at)) (at-tag7 .tag7 .given .1))
 
 returns-8 : tie.Need-returns-8
 unfolding namesOf
 returns-8 c =
     let at-tag8 = c .before .before .before .before in
     let entry = at-tag8 .before .before .before .before in
-    c .and-also6 .ensures ∙ also (c .before .before .binds-slot4 .ensures) (c .before .binds-slot5 .ensures) ∙ sym (ap (namesOf (entry .args .params .now) (entry .args .kinds) (entry .args .file .now) (entry .args .at)) (at-tag8 .tag8 .given .1))
+    c .and-also6 .ensures ∙ also (c .before .before .binds-slot4 .ensures) (c .before .binds-slot5 .ensures) ∙ sym
+    (ap (namesOf (entry .args .params .now) (entry .args .kinds) (entry .args .file .now) (entry .args .at)) (at-tag8 .tag8 .given .1))
 
 returns-9 : tie.Need-returns-9
 unfolding namesOf

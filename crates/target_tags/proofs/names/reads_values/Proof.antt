@@ -56,11 +56,11 @@ loop-less c = search needs
 
 loop-again : tie.Need-loop-again Inv-loop μ-loop
 loop-again c =
-    let at-before = c .before .before in
-    let at-wide = at-before .before in
+    let at-reads-slot = c .before .before in
+    let at-wide = at-reads-slot .before in
     let at-loop-test = at-wide .before .before in
     let at-loop = at-loop-test .before in
-    (omega arith, values-on _ _ _ _ (at-wide .wide .ensures) _ (at-loop-test .loop-test .taken) (sym (at-before .reads-slot .ensures) ∙ c .enum-told .given .1) ∙ at-loop .loop .inv .1)
+    (omega arith, values-on _ _ _ _ (at-wide .wide .ensures) _ (at-loop-test .loop-test .taken) (sym (at-reads-slot .reads-slot .ensures) ∙ c .enum-told .given .1) ∙ at-loop .loop .inv .1)
 
 returns-2 : tie.Need-returns-2 Inv-loop μ-loop
 returns-2 c = values-none _ _ _ _ (c .loop-test .left) ∙ c .before .loop .inv .1

@@ -32,7 +32,9 @@ wide-requires c κs = search needs
 add-next : tie.Need-add-next
 add-next c =
     let entry = c .before .before .before .before in
-    let e = c .wide .ensures in let k = c .before .shared-slice-known2 .given (entry .args .at + 5) in omega arith
+    let e = c .wide .ensures in
+    let k = c .before .shared-slice-known2 .given (entry .args .at + 5) in
+    omega arith
 
 cut-requires-2 : tie.Need-cut-requires-2
 cut-requires-2 c κs = search needs

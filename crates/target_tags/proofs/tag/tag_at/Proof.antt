@@ -81,7 +81,9 @@ returns-10 : tie.Need-returns-10
 returns-10 c = c .both-at .ensures ∙ tag-9 _ _ (omega arith) (c .before .match .keys9)
 
 returns-11 : tie.Need-returns-11
-returns-11 c = let r = c .match .rest in tag-unknown _ _ (omega arith) (r .0 .0 .0 .0 .0 .0 .0 .0 .1) (r .0 .0 .0 .0 .0 .0 .0 .1) (r .0 .0 .0 .0 .0 .0 .1) (r .0 .0 .0 .0 .0 .1) (r .0 .0 .0 .0 .1) (r .0 .0 .0 .1) (r .0 .0 .1) (r .0 .1) (r .1)
+returns-11 c =
+    let r = c .match .rest in tag-unknown _ _ (omega arith) (r .0 .0 .0 .0 .0 .0 .0 .0 .1) (r .0 .0 .0 .0 .0 .0 .0 .1) (r .0 .0 .0 .0 .0 .0 .1) (r .0 .0 .0 .0 .0 .1)
+    (r .0 .0 .0 .0 .1) (r .0 .0 .0 .1) (r .0 .0 .1) (r .0 .1) (r .1)
 
 pub tag-at-spec : {M : Type 1} → statement M
 tag-at-spec =

@@ -55,7 +55,9 @@ loop-less c =
     let at-put-operation = put-operation-before-after-of at-after-of in
     let at-operation-at = at-put-operation .before .before in
     let at-loop = at-operation-at .before in
-    let m = turn-moves (at-loop .loop .inv) (at-operation-at .operation-at .ensures) (at-put-operation .put-operation .ensures) (at-after-of .after-of .ensures) (c .before .next .given .1) in omega (arith, m .0, m .1)
+    let m = turn-moves (at-loop .loop .inv) (at-operation-at .operation-at .ensures) (at-put-operation .put-operation .ensures) (at-after-of .after-of .ensures)
+    (c .before .next .given .1) in
+    omega (arith, m .0, m .1)
 
 loop-again : tie.Need-loop-again Inv-loop μ-loop
 loop-again c =
@@ -80,7 +82,8 @@ returns c =
     let at-put-operation = put-operation-before-enum-told c in
     let at-operation-at = at-put-operation .before .before in
     let at-loop = at-operation-at .before in
-    turn-done (at-loop .loop .inv) (at-operation-at .operation-at .ensures) (at-put-operation .put-operation .ensures) (c .before .before .after-of .ensures) (c .enum-told .given .1)
+    turn-done (at-loop .loop .inv) (at-operation-at .operation-at .ensures) (at-put-operation .put-operation .ensures) (c .before .before .after-of .ensures)
+    (c .enum-told .given .1)
 
 enum-told-2 : tie.Need-enum-told-2 Inv-loop μ-loop
 enum-told-2 c = search needs
@@ -97,7 +100,8 @@ returns-2 c =
     let at-put-operation = put-operation-before-enum-told2 c in
     let at-operation-at = at-put-operation .before .before in
     let at-loop = at-operation-at .before in
-    turn-never (at-loop .loop .inv) (at-operation-at .operation-at .ensures) (at-put-operation .put-operation .ensures) (c .before .before .after-of .ensures) (c .enum-told2 .given .1)
+    turn-never (at-loop .loop .inv) (at-operation-at .operation-at .ensures) (at-put-operation .put-operation .ensures) (c .before .before .after-of .ensures)
+    (c .enum-told2 .given .1)
 
 pub put-block-spec : {M : Type 1} → statement M
 put-block-spec =

@@ -27,8 +27,11 @@ offset-number-requires c κs = search needs
 put-call-requires : tie.Need-put-call-requires
 put-call-requires c κs =
     let at-offset-number = c .before in
-    let entry = entry-before-offset-number at-offset-number in
-    ((entry .pre .0 .0, entry .pre .0 .1, entry .pre .0 .2, entry .pre .0 .3, at-offset-number .offset-number .ensures .1, entry .pre .0 .5), room-as (ap (λ (k : ℕ). callBytes (entry .args .base) (entry .args .v) (entry .args .h) (entry .args .x) k (entry .args .n) (argumentsAt (entry .args .file .now) (entry .args .at) (entry .args .n))) (sym (at-offset-number .offset-number .ensures .0))) (entry .pre .1))
+    let entry = entry-before-offset-number at-offset-number in (
+      (entry .pre .0 .0, entry .pre .0 .1, entry .pre .0 .2, entry .pre .0 .3, at-offset-number .offset-number .ensures .1, entry .pre .0 .5),
+      room-as (ap (λ (k : ℕ). callBytes (entry .args .base) (entry .args .v) (entry .args .h) (entry .args .x) k (entry .args .n)
+          (argumentsAt (entry .args .file .now) (entry .args .at) (entry .args .n))) (sym (at-offset-number .offset-number .ensures .0))) (entry .pre .1),
+    )
 
 same-length : tie.Need-same-length
 same-length c = search needs
@@ -37,7 +40,10 @@ returns : tie.Need-returns
 returns c =
     let at-offset-number = c .before .before .before .before in
     let entry = entry-before-offset-number at-offset-number in
-    wrote-as (ap (λ (k : ℕ). callBytes (entry .args .base) (entry .args .v) (entry .args .h) (entry .args .x) k (entry .args .n) (argumentsAt (entry .args .file .now) (entry .args .at) (entry .args .n))) (sym (at-offset-number .offset-number .ensures .0))) (c .before .before .put-call .ensures)
+    wrote-as
+    (ap (λ (k : ℕ). callBytes (entry .args .base) (entry .args .v) (entry .args .h) (entry .args .x) k (entry .args .n) (argumentsAt (entry .args .file .now) (entry .args .at)
+    (entry .args .n))) (sym (at-offset-number .offset-number .ensures .0)))
+    (c .before .before .put-call .ensures)
 
 pub put-called-spec : {M : Type 1} → statement M
 put-called-spec =

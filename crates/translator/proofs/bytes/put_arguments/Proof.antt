@@ -32,9 +32,9 @@ add-slot c = omega (arith, passing-small (c .before .before .loop .inv) (c .befo
 
 put-one-requires : tie.Need-put-one-requires Inv-loop μ-loop
 put-one-requires c κs =
-    let at-before = c .before .before in
-    let at-loop = at-before .before in
-    passing-room (at-loop .loop .inv) (at-before .loop-test .taken)
+    let at-loop-test = c .before .before in
+    let at-loop = at-loop-test .before in
+    passing-room (at-loop .loop .inv) (at-loop-test .loop-test .taken)
 
 add-at : tie.Need-add-at Inv-loop μ-loop
 add-at c =

@@ -28,7 +28,8 @@ sub-left c = omega arith
 put-zero-requires : tie.Need-put-zero-requires Inv-loop μ-loop
 put-zero-requires c κs =
     let at-loop = c .before .before in
-    room-front ((1 ∷ at-loop .loop .slot ∷ []) ++ (0 ∷ 0 ∷ 0 ∷ 0 ∷ [])) (zeros (at-loop .loop .slot + 1) (at-loop .loop .left - 1)) (rest-as (at-loop .loop .inv .0) _ (zeros-more (at-loop .loop .slot) (at-loop .loop .left) (at-loop .loop .left - 1) (omega (arith, c .before .loop-test .taken))))
+    room-front ((1 ∷ at-loop .loop .slot ∷ []) ++ (0 ∷ 0 ∷ 0 ∷ 0 ∷ [])) (zeros (at-loop .loop .slot + 1) (at-loop .loop .left - 1))
+    (rest-as (at-loop .loop .inv .0) _ (zeros-more (at-loop .loop .slot) (at-loop .loop .left) (at-loop .loop .left - 1) (omega (arith, c .before .loop-test .taken))))
 
 add-slot : tie.Need-add-slot Inv-loop μ-loop
 add-slot c =
@@ -44,8 +45,15 @@ loop-less c =
 loop-again : tie.Need-loop-again Inv-loop μ-loop
 loop-again c =
     let at-loop-test = in-loop-before-slice-known2 c in
-    let at-loop = at-loop-test .before in
-    (rest-more (at-loop .loop .inv .0) ((1 ∷ at-loop .loop .slot ∷ []) ++ (0 ∷ 0 ∷ 0 ∷ 0 ∷ [])) (zeros (at-loop .loop .slot + 1) (at-loop .loop .left - 1)) (zeros-more (at-loop .loop .slot) (at-loop .loop .left) (at-loop .loop .left - 1) (omega (arith, at-loop-test .loop-test .taken))) (c .before .before .put-zero .ensures), omega (arith, at-loop .loop .inv .1, at-loop-test .loop-test .taken))
+    let at-loop = at-loop-test .before in (
+      rest-more (at-loop .loop .inv .0) ((1 ∷ at-loop .loop .slot ∷ []) ++ (0 ∷ 0 ∷ 0 ∷ 0 ∷ [])) (zeros (at-loop .loop .slot + 1) (at-loop .loop .left - 1)) (zeros-more (at-loop
+          .loop .slot) (at-loop .loop .left) (at-loop .loop .left - 1) (omega (arith, at-loop-test .loop-test .taken))) (c .before .before .put-zero .ensures),
+      omega (
+        arith,
+        at-loop .loop .inv .1,
+        at-loop-test .loop-test .taken,
+      ),
+    )
 
 same-length : tie.Need-same-length Inv-loop μ-loop
 same-length c = c .before .loop .inv .0 .long

@@ -30,16 +30,22 @@ put-pair-requires : tie.Need-put-pair-requires
 put-pair-requires c κs =
     let at-put-three = c .before .before .before in
     let at-jump-size = at-put-three .before .before in
-    let entry = at-jump-size .before .before in
-    (omega (arith, at-jump-size .jump-size .ensures, entry .pre .0 .1), branch-pair-room (entry .args .base) (entry .args .v) (entry .args .y) (entry .args .z) (entry .args .l) (entry .args .m) (at-jump-size .jump-size .ensures) (entry .pre .1) (at-put-three .put-three .ensures))
+    let entry = at-jump-size .before .before in (
+      omega (arith, at-jump-size .jump-size .ensures, entry .pre .0 .1),
+      branch-pair-room (entry .args .base) (entry .args .v) (entry .args .y) (entry .args .z) (entry .args .l)
+          (entry .args .m) (at-jump-size .jump-size .ensures) (entry .pre .1) (at-put-three .put-three .ensures),
+    )
 
 put-label-jump-requires : tie.Need-put-label-jump-requires
 put-label-jump-requires c κs =
     let at-put-pair = c .before .before .before in
     let at-put-three = put-three-before-put-pair at-put-pair in
     let at-jump-size = at-put-three .before .before in
-    let entry = at-jump-size .before .before in
-    ((entry .pre .0 .0, entry .pre .0 .1), branch-then-room (entry .args .base) (entry .args .v) (entry .args .y) (entry .args .z) (entry .args .l) (entry .args .m) (at-jump-size .jump-size .ensures) (entry .pre .1) (at-put-three .put-three .ensures) (at-put-pair .put-pair .ensures))
+    let entry = at-jump-size .before .before in (
+      (entry .pre .0 .0, entry .pre .0 .1),
+      branch-then-room (entry .args .base) (entry .args .v) (entry .args .y) (entry .args .z) (entry .args .l) (entry .args .m) (at-jump-size
+          .jump-size .ensures) (entry .pre .1) (at-put-three .put-three .ensures) (at-put-pair .put-pair .ensures),
+    )
 
 put-label-jump-requires-2 : tie.Need-put-label-jump-requires-2
 put-label-jump-requires-2 c κs =
@@ -47,8 +53,11 @@ put-label-jump-requires-2 c κs =
     let at-put-pair = put-pair-before-put-label-jump at-put-label-jump in
     let at-put-three = put-three-before-put-pair at-put-pair in
     let at-jump-size = at-put-three .before .before in
-    let entry = at-jump-size .before .before in
-    ((entry .pre .0 .0, entry .pre .0 .1), branch-else-room (entry .args .base) (entry .args .v) (entry .args .y) (entry .args .z) (entry .args .l) (entry .args .m) (at-jump-size .jump-size .ensures) (entry .pre .1) (at-put-three .put-three .ensures) (at-put-pair .put-pair .ensures) (at-put-label-jump .put-label-jump .ensures))
+    let entry = at-jump-size .before .before in (
+      (entry .pre .0 .0, entry .pre .0 .1),
+      branch-else-room (entry .args .base) (entry .args .v) (entry .args .y) (entry .args .z) (entry .args .l) (entry .args .m) (at-jump-size
+          .jump-size .ensures) (entry .pre .1) (at-put-three .put-three .ensures) (at-put-pair .put-pair .ensures) (at-put-label-jump .put-label-jump .ensures),
+    )
 
 same-length : tie.Need-same-length
 same-length c = search needs
@@ -60,7 +69,8 @@ returns c =
     let at-put-three = put-three-before-put-pair at-put-pair in
     let at-jump-size = at-put-three .before .before in
     let entry = at-jump-size .before .before in
-    branch-wrote (entry .args .base) (entry .args .v) (entry .args .y) (entry .args .z) (entry .args .l) (entry .args .m) (at-jump-size .jump-size .ensures) (entry .pre .1) (at-put-three .put-three .ensures) (at-put-pair .put-pair .ensures) (at-put-label-jump .put-label-jump .ensures) (c .before .before .put-label-jump2 .ensures)
+    branch-wrote (entry .args .base) (entry .args .v) (entry .args .y) (entry .args .z) (entry .args .l) (entry .args .m) (at-jump-size .jump-size .ensures) (entry .pre .1)
+    (at-put-three .put-three .ensures) (at-put-pair .put-pair .ensures) (at-put-label-jump .put-label-jump .ensures) (c .before .before .put-label-jump2 .ensures)
 
 pub put-branch-spec : {M : Type 1} → statement M
 put-branch-spec =

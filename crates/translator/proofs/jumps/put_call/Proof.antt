@@ -7,13 +7,19 @@ use Rattle.translator.proofs.jumps.put_call.Tie as tie
 
 put-plain-call-requires : tie.Need-put-plain-call-requires
 put-plain-call-requires c κs =
-    let entry = c .before .before .before .before in
-    ((entry .pre .0 .1, entry .pre .0 .2, entry .pre .0 .3, entry .pre .0 .4, entry .pre .0 .5), room-as (plain-as (entry .args .base) (entry .args .v) (entry .args .h) (entry .args .x) (entry .args .g) (entry .args .n) (take (entry .args .n) (drop (entry .args .from) (entry .args .file .now))) (c .before .if1 .taken)) (entry .pre .1))
+    let entry = c .before .before .before .before in (
+      (entry .pre .0 .1, entry .pre .0 .2, entry .pre .0 .3, entry .pre .0 .4, entry .pre .0 .5),
+      room-as (plain-as (entry .args .base) (entry .args .v) (entry .args .h) (entry
+          .args .x) (entry .args .g) (entry .args .n) (take (entry .args .n) (drop (entry .args .from) (entry .args .file .now))) (c .before .if1 .taken)) (entry .pre .1),
+    )
 
 put-guarded-call-requires : tie.Need-put-guarded-call-requires
 put-guarded-call-requires c κs =
-    let entry = c .before .before .before .before in
-    (entry .pre .0, room-as (guarded-as (entry .args .base) (entry .args .v) (entry .args .h) (entry .args .x) (entry .args .g) (entry .args .n) (take (entry .args .n) (drop (entry .args .from) (entry .args .file .now))) (c .before .if1 .left)) (entry .pre .1))
+    let entry = c .before .before .before .before in (
+      entry .pre .0,
+      room-as (guarded-as (entry .args .base) (entry .args .v) (entry .args .h) (entry .args .x) (entry .args .g) (entry .args .n) (take (entry .args .n)
+          (drop (entry .args .from) (entry .args .file .now))) (c .before .if1 .left)) (entry .pre .1),
+    )
 
 same-length : tie.Need-same-length
 same-length c = search needs
@@ -22,7 +28,10 @@ returns : tie.Need-returns
 returns c =
     let at-if1 = c .before .before .before .before in
     let entry = at-if1 .before .before .before in
-    wrote-as (plain-as (entry .args .base) (entry .args .v) (entry .args .h) (entry .args .x) (entry .args .g) (entry .args .n) (take (entry .args .n) (drop (entry .args .from) (entry .args .file .now))) (at-if1 .if1 .taken)) (c .before .before .put-plain-call .ensures)
+    wrote-as
+    (plain-as (entry .args .base) (entry .args .v) (entry .args .h) (entry .args .x) (entry .args .g) (entry .args .n) (take (entry .args .n) (drop (entry .args .from)
+    (entry .args .file .now))) (at-if1 .if1 .taken))
+    (c .before .before .put-plain-call .ensures)
 
 same-length-2 : tie.Need-same-length-2
 same-length-2 c = search needs
@@ -31,7 +40,10 @@ returns-2 : tie.Need-returns-2
 returns-2 c =
     let at-if1 = c .before .before .before .before in
     let entry = at-if1 .before .before .before in
-    wrote-as (guarded-as (entry .args .base) (entry .args .v) (entry .args .h) (entry .args .x) (entry .args .g) (entry .args .n) (take (entry .args .n) (drop (entry .args .from) (entry .args .file .now))) (at-if1 .if1 .left)) (c .before .before .put-guarded-call .ensures)
+    wrote-as
+    (guarded-as (entry .args .base) (entry .args .v) (entry .args .h) (entry .args .x) (entry .args .g) (entry .args .n) (take (entry .args .n) (drop (entry .args .from)
+    (entry .args .file .now))) (at-if1 .if1 .left))
+    (c .before .before .put-guarded-call .ensures)
 
 pub put-call-spec : {M : Type 1} → statement M
 put-call-spec =

@@ -12,15 +12,21 @@ use Rattle.translator.proofs.jumps.put_call_jump.Tie as tie
 put-jump-head-requires : tie.Need-put-jump-head-requires
 unfolding callJump
 put-jump-head-requires c κs =
-    let entry = c .before .before .before in
-    (entry .pre .0 .0, room-front (jumpHead (entry .args .g) (entry .args .k) (entry .args .h) (entry .args .n)) (map slotOf (take (entry .args .n) (drop (entry .args .from) (entry .args .file .now)))) (entry .pre .1))
+    let entry = c .before .before .before in (
+      entry .pre .0 .0,
+      room-front (jumpHead (entry .args .g) (entry .args .k) (entry .args .h) (entry .args .n)) (map slotOf (take (entry .args .n)
+          (drop (entry .args .from) (entry .args .file .now)))) (entry .pre .1),
+    )
 
 put-arguments-requires : tie.Need-put-arguments-requires
 unfolding callJump
 put-arguments-requires c κs =
     let at-put-jump-head = c .before .before .before in
-    let entry = at-put-jump-head .before .before .before .before in
-    ((entry .pre .0 .1 .inside, entry .pre .0 .1 .small), room-back (jumpHead (entry .args .g) (entry .args .k) (entry .args .h) (entry .args .n)) (map slotOf (take (entry .args .n) (drop (entry .args .from) (entry .args .file .now)))) (entry .pre .1) (at-put-jump-head .put-jump-head .ensures))
+    let entry = at-put-jump-head .before .before .before .before in (
+      (entry .pre .0 .1 .inside, entry .pre .0 .1 .small),
+      room-back (jumpHead (entry .args .g) (entry .args .k) (entry .args .h) (entry .args .n)) (map slotOf (take
+          (entry .args .n) (drop (entry .args .from) (entry .args .file .now)))) (entry .pre .1) (at-put-jump-head .put-jump-head .ensures),
+    )
 
 same-length : tie.Need-same-length
 same-length c = search needs
@@ -30,7 +36,9 @@ unfolding callJump
 returns c =
     let at-put-jump-head = c .before .before .before .before .before .before in
     let entry = at-put-jump-head .before .before .before .before in
-    wrote-both (jumpHead (entry .args .g) (entry .args .k) (entry .args .h) (entry .args .n)) (map slotOf (take (entry .args .n) (drop (entry .args .from) (entry .args .file .now)))) (entry .pre .1) (at-put-jump-head .put-jump-head .ensures) (c .before .before .put-arguments .ensures)
+    wrote-both (jumpHead (entry .args .g) (entry .args .k) (entry .args .h) (entry .args .n))
+    (map slotOf (take (entry .args .n) (drop (entry .args .from) (entry .args .file .now)))) (entry .pre .1) (at-put-jump-head .put-jump-head .ensures)
+    (c .before .before .put-arguments .ensures)
 
 pub put-call-jump-spec : {M : Type 1} → statement M
 put-call-jump-spec =

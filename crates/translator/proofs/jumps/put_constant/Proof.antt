@@ -50,7 +50,8 @@ put-four-requires c κs =
     let at-put-two = c .before .before .before .before .before .before .before in
     let at-shared-slice-known = shared-slice-known-before-put-two at-put-two in
     let entry = at-shared-slice-known .before in
-    room-as (value-bytes (entry .args .file .now) (λ i. omega (arith, at-shared-slice-known .shared-slice-known .given i)) (entry .args .at)) (room-back (1 ∷ (entry .args .x + 2) ∷ []) (valueBytes (valueAt (entry .args .file .now) (entry .args .at))) (entry .pre .1) (at-put-two .put-two .ensures))
+    room-as (value-bytes (entry .args .file .now) (λ i. omega (arith, at-shared-slice-known .shared-slice-known .given i)) (entry .args .at))
+    (room-back (1 ∷ (entry .args .x + 2) ∷ []) (valueBytes (valueAt (entry .args .file .now) (entry .args .at))) (entry .pre .1) (at-put-two .put-two .ensures))
 
 same-length : tie.Need-same-length
 same-length c = search needs
@@ -60,7 +61,8 @@ returns c =
     let at-put-two = c .before .before .before .before .before .before .before .before .before .before in
     let at-shared-slice-known = shared-slice-known-before-put-two at-put-two in
     let entry = at-shared-slice-known .before in
-    wrote-both (1 ∷ (entry .args .x + 2) ∷ []) (valueBytes (valueAt (entry .args .file .now) (entry .args .at))) (entry .pre .1) (at-put-two .put-two .ensures) (wrote-as (value-bytes (entry .args .file .now) (λ i. omega (arith, at-shared-slice-known .shared-slice-known .given i)) (entry .args .at)) (c .before .before .put-four .ensures))
+    wrote-both (1 ∷ (entry .args .x + 2) ∷ []) (valueBytes (valueAt (entry .args .file .now) (entry .args .at))) (entry .pre .1) (at-put-two .put-two .ensures)
+    (wrote-as (value-bytes (entry .args .file .now) (λ i. omega (arith, at-shared-slice-known .shared-slice-known .given i)) (entry .args .at)) (c .before .before .put-four .ensures))
 
 pub put-constant-spec : {M : Type 1} → statement M
 put-constant-spec =

@@ -37,15 +37,20 @@ jump-size-requires-2 c κs = search needs
 put-four-requires : tie.Need-put-four-requires
 put-four-requires c κs =
     let entry = c .before .before .before .before .before in
-    guarded-room (entry .args .base) (entry .args .v) (entry .args .h) (entry .args .x) (entry .args .g) (entry .args .n) (take (entry .args .n) (drop (entry .args .from) (entry .args .file .now))) (c .before .before .jump-size .ensures) (c .before .jump-size2 .ensures) (entry .pre .1)
+    guarded-room (entry .args .base) (entry .args .v) (entry .args .h) (entry .args .x) (entry .args .g) (entry .args .n)
+    (take (entry .args .n) (drop (entry .args .from) (entry .args .file .now))) (c .before .before .jump-size .ensures) (c .before .jump-size2 .ensures) (entry .pre .1)
 
 put-pair-requires : tie.Need-put-pair-requires
 put-pair-requires c κs =
     let at-put-four = c .before .before .before in
     let at-jump-size2 = at-put-four .before .before in
     let at-jump-size = at-jump-size2 .before in
-    let entry = entry-before-jump-size at-jump-size in
-    (omega (arith, at-jump-size .jump-size .ensures, entry .pre .0 .3), guarded-pair-room (entry .args .base) (entry .args .v) (entry .args .h) (entry .args .x) (entry .args .g) (entry .args .n) (take (entry .args .n) (drop (entry .args .from) (entry .args .file .now))) (at-jump-size .jump-size .ensures) (at-jump-size2 .jump-size2 .ensures) (entry .pre .1) (at-put-four .put-four .ensures))
+    let entry = entry-before-jump-size at-jump-size in (
+      omega (arith, at-jump-size .jump-size .ensures, entry .pre .0 .3),
+      guarded-pair-room (entry .args .base) (entry .args .v) (entry .args .h) (entry .args .x) (entry .args .g)
+          (entry .args .n) (take (entry .args .n) (drop (entry .args .from) (entry .args .file .now))) (at-jump-size .jump-size .ensures) (at-jump-size2 .jump-size2 .ensures) (entry
+          .pre .1) (at-put-four .put-four .ensures),
+    )
 
 put-call-jump-requires : tie.Need-put-call-jump-requires
 put-call-jump-requires c κs =
@@ -53,8 +58,12 @@ put-call-jump-requires c κs =
     let at-put-four = put-four-before-put-pair at-put-pair in
     let at-jump-size2 = at-put-four .before .before in
     let at-jump-size = at-jump-size2 .before in
-    let entry = entry-before-jump-size at-jump-size in
-    ((entry .pre .0 .4, entry .pre .0 .5), guarded-jump-room (entry .args .base) (entry .args .v) (entry .args .h) (entry .args .x) (entry .args .g) (entry .args .n) (take (entry .args .n) (drop (entry .args .from) (entry .args .file .now))) (at-jump-size .jump-size .ensures) (at-jump-size2 .jump-size2 .ensures) (entry .pre .1) (at-put-four .put-four .ensures) (at-put-pair .put-pair .ensures))
+    let entry = entry-before-jump-size at-jump-size in (
+      (entry .pre .0 .4, entry .pre .0 .5),
+      guarded-jump-room (entry .args .base) (entry .args .v) (entry .args .h) (entry .args .x) (entry .args .g) (entry .args .n) (take (entry
+          .args .n) (drop (entry .args .from) (entry .args .file .now))) (at-jump-size .jump-size .ensures) (at-jump-size2 .jump-size2 .ensures) (entry .pre .1) (at-put-four
+          .put-four .ensures) (at-put-pair .put-pair .ensures),
+    )
 
 put-pair-requires-2 : tie.Need-put-pair-requires-2
 put-pair-requires-2 c κs =
@@ -63,8 +72,12 @@ put-pair-requires-2 c κs =
     let at-put-four = put-four-before-put-pair at-put-pair in
     let at-jump-size2 = at-put-four .before .before in
     let at-jump-size = at-jump-size2 .before in
-    let entry = entry-before-jump-size at-jump-size in
-    (omega (arith, at-jump-size2 .jump-size2 .ensures, entry .pre .0 .1), guarded-length-room (entry .args .base) (entry .args .v) (entry .args .h) (entry .args .x) (entry .args .g) (entry .args .n) (take (entry .args .n) (drop (entry .args .from) (entry .args .file .now))) (at-jump-size .jump-size .ensures) (at-jump-size2 .jump-size2 .ensures) (entry .pre .1) (at-put-four .put-four .ensures) (at-put-pair .put-pair .ensures) (at-put-call-jump .put-call-jump .ensures))
+    let entry = entry-before-jump-size at-jump-size in (
+      omega (arith, at-jump-size2 .jump-size2 .ensures, entry .pre .0 .1),
+      guarded-length-room (entry .args .base) (entry .args .v) (entry .args .h) (entry .args .x) (entry .args
+          .g) (entry .args .n) (take (entry .args .n) (drop (entry .args .from) (entry .args .file .now))) (at-jump-size .jump-size .ensures) (at-jump-size2 .jump-size2 .ensures)
+          (entry .pre .1) (at-put-four .put-four .ensures) (at-put-pair .put-pair .ensures) (at-put-call-jump .put-call-jump .ensures),
+    )
 
 put-label-jump-requires : tie.Need-put-label-jump-requires
 put-label-jump-requires c κs =
@@ -74,8 +87,12 @@ put-label-jump-requires c κs =
     let at-put-four = put-four-before-put-pair at-put-pair in
     let at-jump-size2 = at-put-four .before .before in
     let at-jump-size = at-jump-size2 .before in
-    let entry = entry-before-jump-size at-jump-size in
-    ((entry .pre .0 .0, entry .pre .0 .1), guarded-label-room (entry .args .base) (entry .args .v) (entry .args .h) (entry .args .x) (entry .args .g) (entry .args .n) (take (entry .args .n) (drop (entry .args .from) (entry .args .file .now))) (at-jump-size .jump-size .ensures) (at-jump-size2 .jump-size2 .ensures) (entry .pre .1) (at-put-four .put-four .ensures) (at-put-pair .put-pair .ensures) (at-put-call-jump .put-call-jump .ensures) (at-put-pair2 .put-pair2 .ensures))
+    let entry = entry-before-jump-size at-jump-size in (
+      (entry .pre .0 .0, entry .pre .0 .1),
+      guarded-label-room (entry .args .base) (entry .args .v) (entry .args .h) (entry .args .x) (entry .args .g) (entry .args .n) (take (entry
+          .args .n) (drop (entry .args .from) (entry .args .file .now))) (at-jump-size .jump-size .ensures) (at-jump-size2 .jump-size2 .ensures) (entry .pre .1) (at-put-four
+          .put-four .ensures) (at-put-pair .put-pair .ensures) (at-put-call-jump .put-call-jump .ensures) (at-put-pair2 .put-pair2 .ensures),
+    )
 
 same-length : tie.Need-same-length
 same-length c = search needs
@@ -89,7 +106,10 @@ returns c =
     let at-jump-size2 = at-put-four .before .before in
     let at-jump-size = at-jump-size2 .before in
     let entry = entry-before-jump-size at-jump-size in
-    guarded-wrote (entry .args .base) (entry .args .v) (entry .args .h) (entry .args .x) (entry .args .g) (entry .args .n) (take (entry .args .n) (drop (entry .args .from) (entry .args .file .now))) (at-jump-size .jump-size .ensures) (at-jump-size2 .jump-size2 .ensures) (entry .pre .1) (at-put-four .put-four .ensures) (at-put-pair .put-pair .ensures) (at-put-call-jump .put-call-jump .ensures) (at-put-pair2 .put-pair2 .ensures) (c .before .before .put-label-jump .ensures)
+    guarded-wrote (entry .args .base) (entry .args .v) (entry .args .h) (entry .args .x) (entry .args .g) (entry .args .n)
+    (take (entry .args .n) (drop (entry .args .from) (entry .args .file .now))) (at-jump-size .jump-size .ensures) (at-jump-size2 .jump-size2 .ensures) (entry .pre .1)
+    (at-put-four .put-four .ensures) (at-put-pair .put-pair .ensures) (at-put-call-jump .put-call-jump .ensures) (at-put-pair2 .put-pair2 .ensures)
+    (c .before .before .put-label-jump .ensures)
 
 pub put-guarded-call-spec : {M : Type 1} → statement M
 put-guarded-call-spec =

@@ -18,8 +18,11 @@ put-pair-requires : tie.Need-put-pair-requires
 unfolding jumpHead
 put-pair-requires c κs =
     let at-put-one = c .before .before .before in
-    let entry = at-put-one .before .before .before in
-    (entry .pre .0, room-front (pairBytes (entry .args .g)) (entry .args .k ∷ entry .args .h ∷ entry .args .n ∷ []) (room-back (4 ∷ []) (pairBytes (entry .args .g) ++ (entry .args .k ∷ entry .args .h ∷ entry .args .n ∷ [])) (entry .pre .1) (at-put-one .put-one .ensures)))
+    let entry = at-put-one .before .before .before in (
+      entry .pre .0,
+      room-front (pairBytes (entry .args .g)) (entry .args .k ∷ entry .args .h ∷ entry .args .n ∷ []) (room-back (4 ∷ []) (pairBytes (entry .args .g) ++
+          (entry .args .k ∷ entry .args .h ∷ entry .args .n ∷ [])) (entry .pre .1) (at-put-one .put-one .ensures)),
+    )
 
 put-three-requires : tie.Need-put-three-requires
 unfolding jumpHead
@@ -27,7 +30,9 @@ put-three-requires c κs =
     let at-put-pair = c .before .before .before in
     let at-put-one = at-put-pair .before .before .before .before in
     let entry = at-put-one .before .before .before in
-    room-back (pairBytes (entry .args .g)) (entry .args .k ∷ entry .args .h ∷ entry .args .n ∷ []) (room-back (4 ∷ []) (pairBytes (entry .args .g) ++ (entry .args .k ∷ entry .args .h ∷ entry .args .n ∷ [])) (entry .pre .1) (at-put-one .put-one .ensures)) (at-put-pair .put-pair .ensures)
+    room-back (pairBytes (entry .args .g)) (entry .args .k ∷ entry .args .h ∷ entry .args .n ∷ [])
+    (room-back (4 ∷ []) (pairBytes (entry .args .g) ++ (entry .args .k ∷ entry .args .h ∷ entry .args .n ∷ [])) (entry .pre .1) (at-put-one .put-one .ensures))
+    (at-put-pair .put-pair .ensures)
 
 same-length : tie.Need-same-length
 same-length c = search needs
@@ -38,7 +43,9 @@ returns c =
     let at-put-pair = c .before .before .before .before .before .before in
     let at-put-one = at-put-pair .before .before .before .before in
     let entry = at-put-one .before .before .before in
-    let R = room-back (4 ∷ []) (pairBytes (entry .args .g) ++ (entry .args .k ∷ entry .args .h ∷ entry .args .n ∷ [])) (entry .pre .1) (at-put-one .put-one .ensures) in wrote-both (4 ∷ []) (pairBytes (entry .args .g) ++ (entry .args .k ∷ entry .args .h ∷ entry .args .n ∷ [])) (entry .pre .1) (at-put-one .put-one .ensures) (wrote-both (pairBytes (entry .args .g)) (entry .args .k ∷ entry .args .h ∷ entry .args .n ∷ []) R (at-put-pair .put-pair .ensures) (c .before .before .put-three .ensures))
+    let R = room-back (4 ∷ []) (pairBytes (entry .args .g) ++ (entry .args .k ∷ entry .args .h ∷ entry .args .n ∷ [])) (entry .pre .1) (at-put-one .put-one .ensures) in
+    wrote-both (4 ∷ []) (pairBytes (entry .args .g) ++ (entry .args .k ∷ entry .args .h ∷ entry .args .n ∷ [])) (entry .pre .1) (at-put-one .put-one .ensures)
+    (wrote-both (pairBytes (entry .args .g)) (entry .args .k ∷ entry .args .h ∷ entry .args .n ∷ []) R (at-put-pair .put-pair .ensures) (c .before .before .put-three .ensures))
 
 pub put-jump-head-spec : {M : Type 1} → statement M
 put-jump-head-spec =

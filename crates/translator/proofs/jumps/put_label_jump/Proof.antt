@@ -22,8 +22,11 @@ put-slots-requires : tie.Need-put-slots-requires
 unfolding labelJump
 put-slots-requires c κs =
     let at-put-jump-head = c .before .before .before in
-    let entry = at-put-jump-head .before .before .before in
-    (omega (arith, entry .pre .0 .1), room-back (jumpHead (entry .args .base + entry .args .l) 0 1 (entry .args .v)) (slotsFrom 2 (entry .args .v)) (entry .pre .1) (at-put-jump-head .put-jump-head .ensures))
+    let entry = at-put-jump-head .before .before .before in (
+      omega (arith, entry .pre .0 .1),
+      room-back (jumpHead (entry .args .base + entry .args .l) 0 1 (entry .args .v)) (slotsFrom 2 (entry .args .v)) (entry .pre .1)
+          (at-put-jump-head .put-jump-head .ensures),
+    )
 
 same-length : tie.Need-same-length
 same-length c = search needs
@@ -33,7 +36,8 @@ unfolding labelJump
 returns c =
     let at-put-jump-head = c .before .before .before .before .before .before in
     let entry = at-put-jump-head .before .before .before in
-    wrote-both (jumpHead (entry .args .base + entry .args .l) 0 1 (entry .args .v)) (slotsFrom 2 (entry .args .v)) (entry .pre .1) (at-put-jump-head .put-jump-head .ensures) (c .before .before .put-slots .ensures)
+    wrote-both (jumpHead (entry .args .base + entry .args .l) 0 1 (entry .args .v)) (slotsFrom 2 (entry .args .v)) (entry .pre .1) (at-put-jump-head .put-jump-head .ensures)
+    (c .before .before .put-slots .ensures)
 
 pub put-label-jump-spec : {M : Type 1} → statement M
 put-label-jump-spec =

@@ -25,22 +25,29 @@ jump-size-requires c κs = search needs
 put-three-requires : tie.Need-put-three-requires
 put-three-requires c κs =
     let entry = c .before .before .before .before in
-    plain-room (entry .args .v) (entry .args .x) (entry .args .g) (entry .args .n) (take (entry .args .n) (drop (entry .args .from) (entry .args .file .now))) (c .before .jump-size .ensures) (entry .pre .1)
+    plain-room (entry .args .v) (entry .args .x) (entry .args .g) (entry .args .n) (take (entry .args .n) (drop (entry .args .from) (entry .args .file .now)))
+    (c .before .jump-size .ensures) (entry .pre .1)
 
 put-pair-requires : tie.Need-put-pair-requires
 put-pair-requires c κs =
     let at-put-three = c .before .before .before in
     let at-jump-size = at-put-three .before .before in
-    let entry = entry-before-jump-size at-jump-size in
-    (omega (arith, at-jump-size .jump-size .ensures, entry .pre .0 .2), plain-pair-room (entry .args .v) (entry .args .x) (entry .args .g) (entry .args .n) (take (entry .args .n) (drop (entry .args .from) (entry .args .file .now))) (at-jump-size .jump-size .ensures) (entry .pre .1) (at-put-three .put-three .ensures))
+    let entry = entry-before-jump-size at-jump-size in (
+      omega (arith, at-jump-size .jump-size .ensures, entry .pre .0 .2),
+      plain-pair-room (entry .args .v) (entry .args .x) (entry .args .g) (entry .args .n) (take (entry .args .n)
+          (drop (entry .args .from) (entry .args .file .now))) (at-jump-size .jump-size .ensures) (entry .pre .1) (at-put-three .put-three .ensures),
+    )
 
 put-call-jump-requires : tie.Need-put-call-jump-requires
 put-call-jump-requires c κs =
     let at-put-pair = c .before .before .before in
     let at-put-three = put-three-before-put-pair at-put-pair in
     let at-jump-size = at-put-three .before .before in
-    let entry = entry-before-jump-size at-jump-size in
-    ((entry .pre .0 .3, entry .pre .0 .4), plain-jump-room (entry .args .v) (entry .args .x) (entry .args .g) (entry .args .n) (take (entry .args .n) (drop (entry .args .from) (entry .args .file .now))) (at-jump-size .jump-size .ensures) (entry .pre .1) (at-put-three .put-three .ensures) (at-put-pair .put-pair .ensures))
+    let entry = entry-before-jump-size at-jump-size in (
+      (entry .pre .0 .3, entry .pre .0 .4),
+      plain-jump-room (entry .args .v) (entry .args .x) (entry .args .g) (entry .args .n) (take (entry .args .n) (drop (entry .args .from)
+          (entry .args .file .now))) (at-jump-size .jump-size .ensures) (entry .pre .1) (at-put-three .put-three .ensures) (at-put-pair .put-pair .ensures),
+    )
 
 same-length : tie.Need-same-length
 same-length c = search needs
@@ -51,7 +58,8 @@ returns c =
     let at-put-three = put-three-before-put-pair at-put-pair in
     let at-jump-size = at-put-three .before .before in
     let entry = entry-before-jump-size at-jump-size in
-    plain-wrote (entry .args .v) (entry .args .x) (entry .args .g) (entry .args .n) (take (entry .args .n) (drop (entry .args .from) (entry .args .file .now))) (at-jump-size .jump-size .ensures) (entry .pre .1) (at-put-three .put-three .ensures) (at-put-pair .put-pair .ensures) (c .before .before .put-call-jump .ensures)
+    plain-wrote (entry .args .v) (entry .args .x) (entry .args .g) (entry .args .n) (take (entry .args .n) (drop (entry .args .from) (entry .args .file .now)))
+    (at-jump-size .jump-size .ensures) (entry .pre .1) (at-put-three .put-three .ensures) (at-put-pair .put-pair .ensures) (c .before .before .put-call-jump .ensures)
 
 pub put-plain-call-spec : {M : Type 1} → statement M
 put-plain-call-spec =

@@ -48,10 +48,10 @@ add-n c = omega (arith, c .byte-number .ensures .1)
 
 add-n-2 : tie.Need-add-n-2 Inv-loop μ-loop
 add-n-2 c =
-    let at-before = c .before .before in
-    let at-loop = at-before .before in
+    let at-loop-test = c .before .before in
+    let at-loop = at-loop-test .before in
     let entry = at-loop .before .before in
-    omega (arith, c .byte-number .ensures .1, at-loop .loop .inv .0 .few, at-before .loop-test .taken, entry .pre .0)
+    omega (arith, c .byte-number .ensures .1, at-loop .loop .inv .0 .few, at-loop-test .loop-test .taken, entry .pre .0)
 
 add-f : tie.Need-add-f Inv-loop μ-loop
 add-f c =
@@ -65,8 +65,13 @@ loop-again : tie.Need-loop-again Inv-loop μ-loop
 loop-again c =
     let at-loop-test = c .before .before in
     let at-loop = at-loop-test .before in
-    let entry = at-loop .before .before in
-    (numbering-more (at-loop .loop .inv .0) (omega (arith, at-loop-test .loop-test .taken, entry .pre .0)) (c .byte-number .ensures .0) (c .byte-number .ensures .1), omega (arith, at-loop-test .loop-test .taken))
+    let entry = at-loop .before .before in (
+      numbering-more (at-loop .loop .inv .0) (omega (arith, at-loop-test .loop-test .taken, entry .pre .0)) (c .byte-number .ensures .0) (c .byte-number .ensures .1),
+      omega (
+        arith,
+        at-loop-test .loop-test .taken,
+      ),
+    )
 
 same-length : tie.Need-same-length Inv-loop μ-loop
 same-length c =

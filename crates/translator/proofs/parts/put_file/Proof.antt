@@ -50,7 +50,8 @@ put-three-requires c κs =
     let at-fill-numbers = c .before .before .before .before .before .before in
     let at-byte-number = at-fill-numbers .before .before in
     let entry = entry-before-byte-number at-byte-number in
-    mark-room (entry .args .file .now) (targets-are (entry .pre .0) (at-byte-number .byte-number .ensures .0 ∙ count-is (entry .pre .0)) (at-fill-numbers .fill-numbers .ensures .0)) (entry .pre .1)
+    mark-room (entry .args .file .now)
+    (targets-are (entry .pre .0) (at-byte-number .byte-number .ensures .0 ∙ count-is (entry .pre .0)) (at-fill-numbers .fill-numbers .ensures .0)) (entry .pre .1)
 
 put-two-requires : tie.Need-put-two-requires
 put-two-requires c κs =
@@ -58,7 +59,9 @@ put-two-requires c κs =
     let at-fill-numbers = fill-numbers-before-put-three at-put-three in
     let at-byte-number = at-fill-numbers .before .before in
     let entry = entry-before-byte-number at-byte-number in
-    version-room (entry .args .file .now) (targets-are (entry .pre .0) (at-byte-number .byte-number .ensures .0 ∙ count-is (entry .pre .0)) (at-fill-numbers .fill-numbers .ensures .0)) (entry .pre .1) (at-put-three .put-three .ensures)
+    version-room (entry .args .file .now)
+    (targets-are (entry .pre .0) (at-byte-number .byte-number .ensures .0 ∙ count-is (entry .pre .0)) (at-fill-numbers .fill-numbers .ensures .0)) (entry .pre .1)
+    (at-put-three .put-three .ensures)
 
 put-pair-requires : tie.Need-put-pair-requires
 put-pair-requires c κs =
@@ -66,8 +69,15 @@ put-pair-requires c κs =
     let at-put-three = put-three-before-put-two at-put-two in
     let at-fill-numbers = fill-numbers-before-put-three at-put-three in
     let at-byte-number = at-fill-numbers .before .before in
-    let entry = entry-before-byte-number at-byte-number in
-    (omega (arith, targets-are (entry .pre .0) (at-byte-number .byte-number .ensures .0 ∙ count-is (entry .pre .0)) (at-fill-numbers .fill-numbers .ensures .0), targets-low (entry .pre .0)), targets-room (entry .args .file .now) (targets-are (entry .pre .0) (at-byte-number .byte-number .ensures .0 ∙ count-is (entry .pre .0)) (at-fill-numbers .fill-numbers .ensures .0)) (entry .pre .1) (at-put-three .put-three .ensures) (at-put-two .put-two .ensures))
+    let entry = entry-before-byte-number at-byte-number in (
+      omega (
+        arith,
+        targets-are (entry .pre .0) (at-byte-number .byte-number .ensures .0 ∙ count-is (entry .pre .0)) (at-fill-numbers .fill-numbers .ensures .0),
+        targets-low (entry .pre .0),
+      ),
+      targets-room (entry .args .file .now) (targets-are (entry .pre .0) (at-byte-number .byte-number .ensures .0 ∙ count-is (entry .pre .0))
+          (at-fill-numbers .fill-numbers .ensures .0)) (entry .pre .1) (at-put-three .put-three .ensures) (at-put-two .put-two .ensures),
+    )
 
 put-functions-requires : tie.Need-put-functions-requires
 put-functions-requires c κs =
@@ -76,8 +86,17 @@ put-functions-requires c κs =
     let at-put-three = put-three-before-put-two at-put-two in
     let at-fill-numbers = fill-numbers-before-put-three at-put-three in
     let at-byte-number = at-fill-numbers .before .before in
-    let entry = entry-before-byte-number at-byte-number in
-    ((entry .pre .0, λ g h. at-fill-numbers .fill-numbers .ensures .1 g (omega (arith, h, at-byte-number .byte-number .ensures .0, count-is (entry .pre .0))) ∙ number-from (entry .pre .0) g h, at-byte-number .byte-number .ensures .0 ∙ count-is (entry .pre .0)), functions-room (entry .args .file .now) (targets-are (entry .pre .0) (at-byte-number .byte-number .ensures .0 ∙ count-is (entry .pre .0)) (at-fill-numbers .fill-numbers .ensures .0)) (entry .pre .1) (at-put-three .put-three .ensures) (at-put-two .put-two .ensures) (at-put-pair .put-pair .ensures))
+    let entry = entry-before-byte-number at-byte-number in (
+      (
+        entry .pre .0,
+        λ g h. at-fill-numbers .fill-numbers .ensures .1 g (omega (arith, h, at-byte-number .byte-number .ensures .0, count-is (entry .pre .0))) ∙ number-from (entry
+            .pre .0) g h,
+        at-byte-number .byte-number .ensures .0 ∙ count-is (entry .pre .0),
+      ),
+      functions-room (entry .args .file .now) (targets-are (entry .pre .0) (at-byte-number
+          .byte-number .ensures .0 ∙ count-is (entry .pre .0)) (at-fill-numbers .fill-numbers .ensures .0)) (entry .pre .1) (at-put-three .put-three .ensures) (at-put-two .put-two
+          .ensures) (at-put-pair .put-pair .ensures),
+    )
 
 same-length : tie.Need-same-length
 same-length c = search needs
@@ -90,7 +109,9 @@ returns c =
     let at-fill-numbers = fill-numbers-before-put-three at-put-three in
     let at-byte-number = at-fill-numbers .before .before in
     let entry = entry-before-byte-number at-byte-number in
-    file-wrote (entry .args .file .now) (targets-are (entry .pre .0) (at-byte-number .byte-number .ensures .0 ∙ count-is (entry .pre .0)) (at-fill-numbers .fill-numbers .ensures .0)) (entry .pre .1) (at-put-three .put-three .ensures) (at-put-two .put-two .ensures) (at-put-pair .put-pair .ensures) (c .before .before .put-functions .ensures)
+    file-wrote (entry .args .file .now)
+    (targets-are (entry .pre .0) (at-byte-number .byte-number .ensures .0 ∙ count-is (entry .pre .0)) (at-fill-numbers .fill-numbers .ensures .0)) (entry .pre .1)
+    (at-put-three .put-three .ensures) (at-put-two .put-two .ensures) (at-put-pair .put-pair .ensures) (c .before .before .put-functions .ensures)
 
 pub put-file-spec : {M : Type 1} → statement M
 put-file-spec =

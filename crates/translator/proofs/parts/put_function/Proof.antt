@@ -41,7 +41,14 @@ put-label-requires c κs =
     let at-loop = c .before .before in
     let at-byte-number = at-loop .before in
     let entry = entry-before-byte-number at-byte-number in
-    let b = label-inside (entry .pre .0 .0) (entry .args .f) (entry .pre .1 .0) (at-byte-number .byte-number .ensures .0) (c .before .loop-test .taken) in (entry .pre .0, ((entry .pre .1 .0, b), room-front (labelBytes (entry .args .file .now) (entry .args .f) (at-loop .loop .l)) (blocksFrom (entry .args .file .now) (entry .args .f) (at-loop .loop .l + 1)) (rest-as (at-loop .loop .inv .0) _ (blocks-more (entry .args .file .now) (entry .args .f) (at-loop .loop .l) b))))
+    let b = label-inside (entry .pre .0 .0) (entry .args .f) (entry .pre .1 .0) (at-byte-number .byte-number .ensures .0) (c .before .loop-test .taken) in (
+      entry .pre .0,
+      (
+        (entry .pre .1 .0, b),
+        room-front (labelBytes (entry .args .file .now) (entry .args .f) (at-loop .loop .l)) (blocksFrom (entry .args .file .now)
+            (entry .args .f) (at-loop .loop .l + 1)) (rest-as (at-loop .loop .inv .0) _ (blocks-more (entry .args .file .now) (entry .args .f) (at-loop .loop .l) b)),
+      ),
+    )
 
 add-l : tie.Need-add-l Inv-loop μ-loop
 add-l c =
@@ -60,7 +67,14 @@ loop-again c =
     let at-loop = at-loop-test .before in
     let at-byte-number = at-loop .before in
     let entry = entry-before-byte-number at-byte-number in
-    let b = label-inside (entry .pre .0 .0) (entry .args .f) (entry .pre .1 .0) (at-byte-number .byte-number .ensures .0) (at-loop-test .loop-test .taken) in (rest-more (at-loop .loop .inv .0) (labelBytes (entry .args .file .now) (entry .args .f) (at-loop .loop .l)) (blocksFrom (entry .args .file .now) (entry .args .f) (at-loop .loop .l + 1)) (blocks-more (entry .args .file .now) (entry .args .f) (at-loop .loop .l) b) (c .before .before .put-label .ensures), omega (arith, at-loop-test .loop-test .taken))
+    let b = label-inside (entry .pre .0 .0) (entry .args .f) (entry .pre .1 .0) (at-byte-number .byte-number .ensures .0) (at-loop-test .loop-test .taken) in (
+      rest-more (at-loop .loop .inv .0) (labelBytes (entry .args .file .now) (entry .args .f) (at-loop .loop .l)) (blocksFrom (entry .args .file .now) (entry .args .f) (at-loop
+          .loop .l + 1)) (blocks-more (entry .args .file .now) (entry .args .f) (at-loop .loop .l) b) (c .before .before .put-label .ensures),
+      omega (
+        arith,
+        at-loop-test .loop-test .taken,
+      ),
+    )
 
 same-length : tie.Need-same-length Inv-loop μ-loop
 same-length c = c .before .loop .inv .0 .long
@@ -69,7 +83,9 @@ returns : tie.Need-returns Inv-loop μ-loop
 returns c =
     let at-loop = c .before in
     let entry = at-loop .before .before .before .before .before in
-    rest-done (at-loop .loop .inv .0) (blocks-none (entry .args .file .now) (entry .args .f) (at-loop .loop .l) (label-outside (entry .pre .0 .0) (entry .args .f) (entry .pre .1 .0) (c .before .before .byte-number .ensures .0) (omega (arith, c .loop-test .left))))
+    rest-done (at-loop .loop .inv .0)
+    (blocks-none (entry .args .file .now) (entry .args .f) (at-loop .loop .l) (label-outside (entry .pre .0 .0) (entry .args .f) (entry .pre .1 .0) (c .before .before .byte-number
+    .ensures .0) (omega (arith, c .loop-test .left))))
 
 pub put-function-spec : {M : Type 1} → statement M
 put-function-spec =

@@ -31,8 +31,14 @@ put-function-requires : tie.Need-put-function-requires Inv-loop μ-loop
 put-function-requires c κs =
     let at-loop-test = c .before in
     let at-loop = at-loop-test .before in
-    let entry = entry-before-at-loop at-loop in
-    ((entry .pre .0 .0, entry .pre .0 .1), (omega (arith, at-loop-test .loop-test .taken, entry .pre .0 .2), room-front (functionBytes (entry .args .file .now) (at-loop .loop .f)) (functionsFrom (entry .args .file .now) (at-loop .loop .f + 1)) (rest-as (at-loop .loop .inv .0) _ (functions-more (entry .args .file .now) (at-loop .loop .f) (omega (arith, at-loop-test .loop-test .taken, entry .pre .0 .2))))))
+    let entry = entry-before-at-loop at-loop in (
+      (entry .pre .0 .0, entry .pre .0 .1),
+      (
+        omega (arith, at-loop-test .loop-test .taken, entry .pre .0 .2),
+        room-front (functionBytes (entry .args .file .now) (at-loop .loop .f)) (functionsFrom (entry .args .file .now) (at-loop .loop .f + 1)) (rest-as (at-loop .loop .inv .0) _
+            (functions-more (entry .args .file .now) (at-loop .loop .f) (omega (arith, at-loop-test .loop-test .taken, entry .pre .0 .2)))),
+      ),
+    )
 
 add-f : tie.Need-add-f Inv-loop μ-loop
 add-f c =
@@ -49,8 +55,14 @@ loop-again : tie.Need-loop-again Inv-loop μ-loop
 loop-again c =
     let at-loop-test = in-loop-before-slice-known2 c in
     let at-loop = at-loop-test .before in
-    let entry = entry-before-at-loop at-loop in
-    (rest-more (at-loop .loop .inv .0) (functionBytes (entry .args .file .now) (at-loop .loop .f)) (functionsFrom (entry .args .file .now) (at-loop .loop .f + 1)) (functions-more (entry .args .file .now) (at-loop .loop .f) (omega (arith, at-loop-test .loop-test .taken, entry .pre .0 .2))) (c .before .before .put-function .ensures), omega (arith, at-loop-test .loop-test .taken))
+    let entry = entry-before-at-loop at-loop in (
+      rest-more (at-loop .loop .inv .0) (functionBytes (entry .args .file .now) (at-loop .loop .f)) (functionsFrom (entry .args .file .now) (at-loop .loop .f + 1)) (functions-more
+          (entry .args .file .now) (at-loop .loop .f) (omega (arith, at-loop-test .loop-test .taken, entry .pre .0 .2))) (c .before .before .put-function .ensures),
+      omega (
+        arith,
+        at-loop-test .loop-test .taken,
+      ),
+    )
 
 same-length : tie.Need-same-length Inv-loop μ-loop
 same-length c = c .before .loop .inv .0 .long

@@ -54,7 +54,11 @@ element-copy-out-others c =
 add-v : tie.Need-add-v
 add-v c =
     let entry = c .before .before .before .before .before .before in
-    omega (arith, own-low (entry .pre .0 .0) (entry .args .f) (entry .pre .1 .0 .0) (entry .args .l) (entry .pre .1 .0 .1) refl refl refl, others-low (entry .pre .0 .0) (entry .args .f) (entry .pre .1 .0 .0) (entry .args .l) (entry .pre .1 .0 .1) refl refl refl)
+    omega (
+      arith,
+      own-low (entry .pre .0 .0) (entry .args .f) (entry .pre .1 .0 .0) (entry .args .l) (entry .pre .1 .0 .1) refl refl refl,
+      others-low (entry .pre .0 .0) (entry .args .f) (entry .pre .1 .0 .0) (entry .args .l) (entry .pre .1 .0 .1) refl refl refl,
+    )
 
 by-label-requires : tie.Need-by-label-requires
 by-label-requires c κs = search needs
@@ -87,7 +91,18 @@ put-part-requires c κs =
     let at-by-label = at-by-label2 .before in
     let at-offset-number = offset-number-before-by-label at-by-label in
     let entry = entry-before-offset-number at-offset-number in
-    let w = counts-low (entry .pre .0 .0) (entry .args .f) (entry .pre .1 .0 .0) (entry .args .l) (entry .pre .1 .0 .1) refl refl refl (at-by-label .by-label .ensures) (at-by-label2 .by-label2 .ensures) in ((label-placed (entry .pre .0 .0) (entry .args .f) (entry .pre .1 .0 .0) (entry .args .l) (entry .pre .1 .0 .1) refl refl refl (at-offset-number2 .offset-number2 .ensures .0) (entry .args .numbers .now) (entry .pre .0 .1) (at-offset-number .offset-number .ensures .0), w .0, w .1), room-as (label-part (entry .pre .0 .0) (entry .args .f) (entry .pre .1 .0 .0) (entry .args .l) (entry .pre .1 .0 .1) refl refl refl (at-offset-number2 .offset-number2 .ensures .0) (entry .args .numbers .now) (entry .pre .0 .1) (at-offset-number .offset-number .ensures .0) (at-by-label .by-label .ensures) (at-by-label2 .by-label2 .ensures)) (entry .pre .1 .1))
+    let w = counts-low (entry .pre .0 .0) (entry .args .f) (entry .pre .1 .0 .0) (entry .args .l) (entry .pre .1 .0 .1) refl refl refl (at-by-label .by-label .ensures)
+    (at-by-label2 .by-label2 .ensures) in (
+      (
+        label-placed (entry .pre .0 .0) (entry .args .f) (entry .pre .1 .0 .0) (entry .args .l) (entry .pre .1 .0 .1) refl refl refl (at-offset-number2 .offset-number2 .ensures .0)
+            (entry .args .numbers .now) (entry .pre .0 .1) (at-offset-number .offset-number .ensures .0),
+        w .0,
+        w .1,
+      ),
+      room-as (label-part (entry .pre .0 .0) (entry .args .f) (entry .pre .1 .0 .0) (entry .args .l) (entry .pre .1 .0 .1) refl refl refl (at-offset-number2 .offset-number2
+          .ensures .0) (entry .args .numbers .now) (entry .pre .0 .1) (at-offset-number .offset-number .ensures .0) (at-by-label .by-label .ensures) (at-by-label2 .by-label2
+          .ensures)) (entry .pre .1 .1),
+    )
 
 same-length : tie.Need-same-length
 same-length c = search needs
@@ -99,7 +114,10 @@ returns c =
     let at-by-label = at-by-label2 .before in
     let at-offset-number = offset-number-before-by-label at-by-label in
     let entry = entry-before-offset-number at-offset-number in
-    wrote-as (label-part (entry .pre .0 .0) (entry .args .f) (entry .pre .1 .0 .0) (entry .args .l) (entry .pre .1 .0 .1) refl refl refl (at-offset-number2 .offset-number2 .ensures .0) (entry .args .numbers .now) (entry .pre .0 .1) (at-offset-number .offset-number .ensures .0) (at-by-label .by-label .ensures) (at-by-label2 .by-label2 .ensures)) (c .before .before .put-part .ensures)
+    wrote-as
+    (label-part (entry .pre .0 .0) (entry .args .f) (entry .pre .1 .0 .0) (entry .args .l) (entry .pre .1 .0 .1) refl refl refl (at-offset-number2 .offset-number2 .ensures .0)
+    (entry .args .numbers .now) (entry .pre .0 .1) (at-offset-number .offset-number .ensures .0) (at-by-label .by-label .ensures) (at-by-label2 .by-label2 .ensures))
+    (c .before .before .put-part .ensures)
 
 pub put-label-spec : {M : Type 1} → statement M
 put-label-spec =

@@ -30,22 +30,30 @@ add-size c = search needs
 put-one-requires : tie.Need-put-one-requires
 put-one-requires c κs =
     let entry = c .before .before .before .before in
-    part-room (entry .args .file .now) (entry .args .base) (entry .args .p) (entry .args .n) (entry .args .v) (entry .args .h) (entry .args .at) (c .before .block-size .ensures) (entry .pre .1)
+    part-room (entry .args .file .now) (entry .args .base) (entry .args .p) (entry .args .n) (entry .args .v) (entry .args .h) (entry .args .at) (c .before .block-size .ensures)
+    (entry .pre .1)
 
 put-pair-requires : tie.Need-put-pair-requires
 put-pair-requires c κs =
     let at-put-one = c .before .before .before in
     let at-block-size = at-put-one .before .before in
-    let entry = entry-before-block-size at-block-size in
-    (part-small (entry .args .file .now) (entry .args .base) (entry .args .p) (entry .args .n) (entry .args .v) (entry .args .h) (entry .args .at) (at-block-size .block-size .ensures) (entry .pre .1), part-pair-room (entry .args .file .now) (entry .args .base) (entry .args .p) (entry .args .n) (entry .args .v) (entry .args .h) (entry .args .at) (at-block-size .block-size .ensures) (entry .pre .1) (at-put-one .put-one .ensures))
+    let entry = entry-before-block-size at-block-size in (
+      part-small (entry .args .file .now) (entry .args .base) (entry .args .p) (entry .args .n) (entry .args .v) (entry .args .h) (entry .args .at) (at-block-size .block-size
+          .ensures) (entry .pre .1),
+      part-pair-room (entry .args .file .now) (entry .args .base) (entry .args .p) (entry .args .n) (entry .args .v) (entry .args .h) (entry .args
+          .at) (at-block-size .block-size .ensures) (entry .pre .1) (at-put-one .put-one .ensures),
+    )
 
 put-zeros-requires : tie.Need-put-zeros-requires
 put-zeros-requires c κs =
     let at-put-pair = c .before .before .before in
     let at-put-one = put-one-before-put-pair at-put-pair in
     let at-block-size = at-put-one .before .before in
-    let entry = entry-before-block-size at-block-size in
-    (omega (arith, entry .pre .0 .1, entry .pre .0 .2), part-zeros-room (entry .args .file .now) (entry .args .base) (entry .args .p) (entry .args .n) (entry .args .v) (entry .args .h) (entry .args .at) (at-block-size .block-size .ensures) (entry .pre .1) (at-put-one .put-one .ensures) (at-put-pair .put-pair .ensures))
+    let entry = entry-before-block-size at-block-size in (
+      omega (arith, entry .pre .0 .1, entry .pre .0 .2),
+      part-zeros-room (entry .args .file .now) (entry .args .base) (entry .args .p) (entry .args .n) (entry .args .v) (entry
+          .args .h) (entry .args .at) (at-block-size .block-size .ensures) (entry .pre .1) (at-put-one .put-one .ensures) (at-put-pair .put-pair .ensures),
+    )
 
 put-block-requires : tie.Need-put-block-requires
 put-block-requires c κs =
@@ -53,8 +61,11 @@ put-block-requires c κs =
     let at-put-pair = put-pair-before-put-zeros at-put-zeros in
     let at-put-one = put-one-before-put-pair at-put-pair in
     let at-block-size = at-put-one .before .before in
-    let entry = entry-before-block-size at-block-size in
-    (entry .pre .0 .0, part-block-room (entry .args .file .now) (entry .args .base) (entry .args .p) (entry .args .n) (entry .args .v) (entry .args .h) (entry .args .at) (at-block-size .block-size .ensures) (entry .pre .1) (at-put-one .put-one .ensures) (at-put-pair .put-pair .ensures) (at-put-zeros .put-zeros .ensures))
+    let entry = entry-before-block-size at-block-size in (
+      entry .pre .0 .0,
+      part-block-room (entry .args .file .now) (entry .args .base) (entry .args .p) (entry .args .n) (entry .args .v) (entry .args .h) (entry .args .at)
+          (at-block-size .block-size .ensures) (entry .pre .1) (at-put-one .put-one .ensures) (at-put-pair .put-pair .ensures) (at-put-zeros .put-zeros .ensures),
+    )
 
 same-length : tie.Need-same-length
 same-length c = search needs
@@ -66,7 +77,9 @@ returns c =
     let at-put-one = put-one-before-put-pair at-put-pair in
     let at-block-size = at-put-one .before .before in
     let entry = entry-before-block-size at-block-size in
-    part-wrote (entry .args .file .now) (entry .args .base) (entry .args .p) (entry .args .n) (entry .args .v) (entry .args .h) (entry .args .at) (at-block-size .block-size .ensures) (entry .pre .1) (at-put-one .put-one .ensures) (at-put-pair .put-pair .ensures) (at-put-zeros .put-zeros .ensures) (c .before .before .put-block .ensures)
+    part-wrote (entry .args .file .now) (entry .args .base) (entry .args .p) (entry .args .n) (entry .args .v) (entry .args .h) (entry .args .at)
+    (at-block-size .block-size .ensures) (entry .pre .1) (at-put-one .put-one .ensures) (at-put-pair .put-pair .ensures) (at-put-zeros .put-zeros .ensures)
+    (c .before .before .put-block .ensures)
 
 pub put-part-spec : {M : Type 1} → statement M
 put-part-spec =

@@ -43,7 +43,9 @@ loop-less c =
     let at-operation-size = at-after-of .before in
     let at-operation-at = at-operation-size .before in
     let at-loop = at-operation-at .before in
-    let m = count-moves (at-loop .loop .inv) (at-operation-at .operation-at .ensures) (at-operation-size .operation-size .ensures .0) (at-operation-size .operation-size .ensures .1) (at-after-of .after-of .ensures) (c .before .next .given .1) in omega (arith, m .0, m .1)
+    let m = count-moves (at-loop .loop .inv) (at-operation-at .operation-at .ensures) (at-operation-size .operation-size .ensures .0)
+    (at-operation-size .operation-size .ensures .1) (at-after-of .after-of .ensures) (c .before .next .given .1) in
+    omega (arith, m .0, m .1)
 
 loop-again : tie.Need-loop-again Inv-loop μ-loop
 loop-again c =
@@ -51,29 +53,32 @@ loop-again c =
     let at-operation-size = at-after-of .before in
     let at-operation-at = at-operation-size .before in
     let at-loop = at-operation-at .before in
-    count-next (at-loop .loop .inv) (at-operation-at .operation-at .ensures) (at-operation-size .operation-size .ensures .0) (at-operation-size .operation-size .ensures .1) (at-after-of .after-of .ensures) (c .before .next .given .1)
+    count-next (at-loop .loop .inv) (at-operation-at .operation-at .ensures) (at-operation-size .operation-size .ensures .0) (at-operation-size .operation-size .ensures .1)
+    (at-after-of .after-of .ensures) (c .before .next .given .1)
 
 enum-told : tie.Need-enum-told Inv-loop μ-loop
 enum-told c = search needs
 
 returns : tie.Need-returns Inv-loop μ-loop
 returns c =
-    let at-before = c .before .before in
-    let at-operation-size = at-before .before in
+    let at-after-of = c .before .before in
+    let at-operation-size = at-after-of .before in
     let at-operation-at = at-operation-size .before in
     let at-loop = at-operation-at .before in
-    count-done (at-loop .loop .inv) (at-operation-at .operation-at .ensures) (at-operation-size .operation-size .ensures .0) (at-operation-size .operation-size .ensures .1) (at-before .after-of .ensures) (c .enum-told .given .1)
+    count-done (at-loop .loop .inv) (at-operation-at .operation-at .ensures) (at-operation-size .operation-size .ensures .0) (at-operation-size .operation-size .ensures .1)
+    (at-after-of .after-of .ensures) (c .enum-told .given .1)
 
 enum-told-2 : tie.Need-enum-told-2 Inv-loop μ-loop
 enum-told-2 c = search needs
 
 returns-2 : tie.Need-returns-2 Inv-loop μ-loop
 returns-2 c =
-    let at-before = c .before .before in
-    let at-operation-size = at-before .before in
+    let at-after-of = c .before .before in
+    let at-operation-size = at-after-of .before in
     let at-operation-at = at-operation-size .before in
     let at-loop = at-operation-at .before in
-    count-never (at-loop .loop .inv) (at-operation-at .operation-at .ensures) (at-operation-size .operation-size .ensures .0) (at-operation-size .operation-size .ensures .1) (at-before .after-of .ensures) (c .enum-told2 .given .1)
+    count-never (at-loop .loop .inv) (at-operation-at .operation-at .ensures) (at-operation-size .operation-size .ensures .0) (at-operation-size .operation-size .ensures .1)
+    (at-after-of .after-of .ensures) (c .enum-told2 .given .1)
 
 pub block-size-spec : {M : Type 1} → statement M
 block-size-spec =

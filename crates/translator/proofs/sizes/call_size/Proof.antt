@@ -30,8 +30,16 @@ returns-2 : tie.Need-returns-2
 returns-2 c =
     let at-jump-size2 = c .before in
     let at-jump-size = at-jump-size2 .before in
-    let entry = at-jump-size .before in
-    (guarded-sum (entry .args .v) (entry .args .h) (entry .args .n) (c .if1 .left) (at-jump-size .jump-size .ensures) (at-jump-size2 .jump-size2 .ensures), omega (arith, at-jump-size .jump-size .ensures, at-jump-size2 .jump-size2 .ensures, entry .pre .0, entry .pre .1))
+    let entry = at-jump-size .before in (
+      guarded-sum (entry .args .v) (entry .args .h) (entry .args .n) (c .if1 .left) (at-jump-size .jump-size .ensures) (at-jump-size2 .jump-size2 .ensures),
+      omega (
+        arith,
+        at-jump-size .jump-size .ensures,
+        at-jump-size2 .jump-size2 .ensures,
+        entry .pre .0,
+        entry .pre .1,
+      ),
+    )
 
 pub call-size-spec : {M : Type 1} → statement M
 call-size-spec =

@@ -35,9 +35,9 @@ function-size-requires c κs =
 
 add-n : tie.Need-add-n Inv-loop μ-loop
 add-n c =
-    let at-before = c .before .before in
-    let at-byte-number = at-before .before in
-    omega (arith, at-before .loop .inv .0 .few, c .function-size .ensures .1, c .before .loop-test .taken, at-byte-number .byte-number .ensures .1)
+    let at-loop = c .before .before in
+    let at-byte-number = at-loop .before in
+    omega (arith, at-loop .loop .inv .0 .few, c .function-size .ensures .1, c .before .loop-test .taken, at-byte-number .byte-number .ensures .1)
 
 add-f : tie.Need-add-f Inv-loop μ-loop
 add-f c =
@@ -51,8 +51,15 @@ loop-again : tie.Need-loop-again Inv-loop μ-loop
 loop-again c =
     let at-loop-test = c .before in
     let at-byte-number = at-loop-test .before .before in
-    let entry = entry-before-byte-number at-byte-number in
-    (functions-next (c .before .before .loop .inv .0) (omega (arith, at-loop-test .loop-test .taken, at-byte-number .byte-number .ensures .0, count-is (entry .pre))) (c .function-size .ensures .0) (c .function-size .ensures .1), omega (arith, at-loop-test .loop-test .taken))
+    let entry = entry-before-byte-number at-byte-number in (
+      functions-next (c .before .before .loop .inv .0) (omega (
+        arith,
+        at-loop-test .loop-test .taken,
+        at-byte-number .byte-number .ensures .0,
+        count-is (entry .pre),
+      )) (c .function-size .ensures .0) (c .function-size .ensures .1),
+      omega (arith, at-loop-test .loop-test .taken),
+    )
 
 returns : tie.Need-returns Inv-loop μ-loop
 returns c =

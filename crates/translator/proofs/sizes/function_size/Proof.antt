@@ -35,9 +35,9 @@ label-size-requires c κs =
 
 add-n : tie.Need-add-n Inv-loop μ-loop
 add-n c =
-    let at-before = c .before .before in
-    let at-byte-number = at-before .before in
-    omega (arith, at-before .loop .inv .0 .few, c .label-size .ensures .few, c .before .loop-test .taken, at-byte-number .byte-number .ensures .1)
+    let at-loop = c .before .before in
+    let at-byte-number = at-loop .before in
+    omega (arith, at-loop .loop .inv .0 .few, c .label-size .ensures .few, c .before .loop-test .taken, at-byte-number .byte-number .ensures .1)
 
 add-l : tie.Need-add-l Inv-loop μ-loop
 add-l c =
@@ -51,15 +51,26 @@ loop-again : tie.Need-loop-again Inv-loop μ-loop
 loop-again c =
     let at-loop-test = c .before in
     let at-byte-number = at-loop-test .before .before in
-    let entry = entry-before-byte-number at-byte-number in
-    (blocks-next (c .before .before .loop .inv .0) (label-inside (entry .pre .0) (entry .args .f) (entry .pre .1) (at-byte-number .byte-number .ensures .0) (at-loop-test .loop-test .taken)) (c .label-size .ensures), omega (arith, at-loop-test .loop-test .taken))
+    let entry = entry-before-byte-number at-byte-number in (
+      blocks-next (c .before .before .loop .inv .0) (label-inside (entry .pre .0) (entry .args .f) (entry .pre .1) (at-byte-number .byte-number .ensures .0) (at-loop-test
+          .loop-test .taken)) (c .label-size .ensures),
+      omega (arith, at-loop-test .loop-test .taken),
+    )
 
 returns : tie.Need-returns Inv-loop μ-loop
 returns c =
     let at-loop = c .before in
     let at-byte-number = at-loop .before in
-    let entry = entry-before-byte-number at-byte-number in
-    (blocks-end (at-loop .loop .inv .0) (label-outside (entry .pre .0) (entry .args .f) (entry .pre .1) (at-byte-number .byte-number .ensures .0) (omega (arith, c .loop-test .left))), omega (arith, at-loop .loop .inv .0 .few, at-loop .loop .inv .1, labels-low (entry .pre .0) (entry .args .f) (entry .pre .1) (at-byte-number .byte-number .ensures .0)))
+    let entry = entry-before-byte-number at-byte-number in (
+      blocks-end (at-loop .loop .inv .0) (label-outside (entry .pre .0) (entry .args .f) (entry .pre .1) (at-byte-number .byte-number .ensures .0) (omega
+          (arith, c .loop-test .left))),
+      omega (
+        arith,
+        at-loop .loop .inv .0 .few,
+        at-loop .loop .inv .1,
+        labels-low (entry .pre .0) (entry .args .f) (entry .pre .1) (at-byte-number .byte-number .ensures .0),
+      ),
+    )
 
 pub function-size-spec : {M : Type 1} → statement M
 function-size-spec =

@@ -32,7 +32,11 @@ element-copy-out-v c =
 add-v : tie.Need-add-v
 add-v c =
     let entry = c .before .before .before in
-    omega (arith, own-low (entry .pre .0) (entry .args .f) (entry .pre .1 .0) (entry .args .l) (entry .pre .1 .1) refl refl refl, others-low (entry .pre .0) (entry .args .f) (entry .pre .1 .0) (entry .args .l) (entry .pre .1 .1) refl refl refl)
+    omega (
+      arith,
+      own-low (entry .pre .0) (entry .args .f) (entry .pre .1 .0) (entry .args .l) (entry .pre .1 .1) refl refl refl,
+      others-low (entry .pre .0) (entry .args .f) (entry .pre .1 .0) (entry .args .l) (entry .pre .1 .1) refl refl refl,
+    )
 
 by-label-requires : tie.Need-by-label-requires
 by-label-requires c κs = search needs
@@ -77,7 +81,8 @@ returns c =
     let at-byte-number = c .before .before .before .before in
     let at-by-label = at-byte-number .before in
     let entry = at-by-label .before .before .before .before in
-    label-sized (entry .pre .0) (entry .args .f) (entry .pre .1 .0) (entry .args .l) (entry .pre .1 .1) refl refl refl (c .before .before .offset-number .ensures .0) (at-byte-number .byte-number .ensures .0 ∙ at-by-label .by-label .ensures) (c .block-size .ensures)
+    label-sized (entry .pre .0) (entry .args .f) (entry .pre .1 .0) (entry .args .l) (entry .pre .1 .1) refl refl refl (c .before .before .offset-number .ensures .0)
+    (at-byte-number .byte-number .ensures .0 ∙ at-by-label .by-label .ensures) (c .block-size .ensures)
 
 pub label-size-spec : {M : Type 1} → statement M
 label-size-spec =
