@@ -31,10 +31,8 @@ slice-aggregate-put-bytes-2 c = search needs
 
 put-bytes-requires-3 : tie.Need-put-bytes-requires-3
 put-bytes-requires-3 c κs =
-    let at-put-numbered = c .before .before .before .before in
-    let at-put-ended = at-put-numbered .before .before .before .before .before in
-    let room = wrote-room _ 28 (at-put-ended .put-ended .ensures) (length-stop _) (omega arith) in
-    let rest = wrote-room _ 1 (at-put-numbered .put-numbered .ensures) (length-numbered _ _) (omega arith) in
+    let room = wrote-room _ 28 (c .before .before .before .before .before .before .before .before .before .put-ended .ensures) (length-stop _) (omega arith) in
+    let rest = wrote-room _ 1 (c .before .before .before .before .put-numbered .ensures) (length-numbered _ _) (omega arith) in
     omega arith
 
 same-length : tie.Need-same-length
