@@ -6,6 +6,10 @@ use borrow.Author.Needs.{needs}
 use Rattle.procedure_layout.proofs.operation.call_at.Statement.{statement}
 use Rattle.procedure_layout.proofs.operation.call_at.Tie as tie
 
+-- Ways back to earlier places that several answers take.
+abbrev entry-before-shared-slice-known2 : tie.After-shared-slice-known2 → tie.Start
+entry-before-shared-slice-known2 c = c .before .before .before
+
 add-arguments : tie.Need-add-arguments
 add-arguments c = search needs
 
@@ -25,12 +29,12 @@ shared-slice-read-count c = search needs
 
 cast-next : tie.Need-cast-next
 cast-next c =
-    let entry = c .before .before .before in
+    let entry = entry-before-shared-slice-known2 c in
     omega (arith, c .shared-slice-known2 .given (entry .args .at + 3))
 
 add-next : tie.Need-add-next
 add-next c =
-    let entry = c .before .before .before in
+    let entry = entry-before-shared-slice-known2 c in
     omega (arith, c .shared-slice-known2 .given (entry .args .at + 3))
 
 cut-requires-2 : tie.Need-cut-requires-2
