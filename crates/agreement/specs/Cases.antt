@@ -14,14 +14,14 @@ use Rattle.semantics.specs.Translation.{code, translate}
 use Rattle.semantics.specs.Extras.{extras}
 use Rattle.parsing.specs.Parser.{Verdict, accepted, refused}
 use Rattle.parsing.specs.Fields as Fields
-use Rattle.procedure_layout.specs.Operation as Operation
+use Rattle.procedure_operations.specs.Operation as Operation
 use Rattle.procedure_layout.specs.Layout as Layout
 use Rattle.procedure_names.specs.Names as Names
 use Rattle.procedure_file.specs.Check.{checkOf, programOf}
 use Rattle.target_tags.specs.Tag as Tag
-use Rattle.target_tags.specs.Names as TagNames
+use Rattle.target_names.specs.Names as TagNames
 use Rattle.target_file.specs.Check as Target
-use Rattle.target_file.specs.Layout as TargetLayout
+use Rattle.target_layout.specs.Layout as TargetLayout
 use Rattle.target_file.specs.Writing as Writing
 use Rattle.translator.specs.Translated.{translationOf}
 use Rattle.agreement.specs.Sides.{mainVerdict, wordsVerdict, judgedCall, sidesVerdict, tells, controllerBudget, sidesTell}

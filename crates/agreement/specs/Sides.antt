@@ -1,5 +1,5 @@
 -- The side-by-side call: what it is refused for, what it tells, and what the lent memory then holds.
-use Prim.Native.Nat.{ℕ, _+_, _*_}
+use Prim.Native.Nat.{ℕ, _+_, _*_, _≤_}
 use mathlib.Core.Path.{_≡_}
 use mathlib.Core.Bool.{Bool, true, false}
 use mathlib.Core.List.{List, _++_}
@@ -15,6 +15,7 @@ use Rattle.semantics.specs.Statement.{StopsMatch}
 use Rattle.parsing.specs.declared.Checked.{Checked}
 use Rattle.parsing.specs.declared.Checked.the-variants.{Accepted, Refused}
 use Rattle.parsing.specs.Parser.{Verdict, accepted, refused, orElse}
+use Rattle.parsing.specs.Bytes.{Bytes}
 use Rattle.procedure_file.specs.Check.{checkOf, programOf}
 use Rattle.target_file.specs.Check.{codeOf}
 use Rattle.translator.specs.Translated.{translationOf}
@@ -114,3 +115,21 @@ MemoryBy (refused n p) s args depth budget a frames frames′ room room′ recor
 abbrev pub SidesMemory : List ℕ → List ℤ → ℕ → ℕ → Sides → List ℤ → List ℤ → List ℕ → List ℕ → List ℤ → List ℤ → Type 0
 SidesMemory s args depth budget a frames frames′ room room′ records records′ =
     MemoryBy (sidesVerdict s (length args) depth (length frames) (length room) (length records)) s args depth budget a frames frames′ room room′ records records′
+
+-- ── What running both machines is asked, and what it gives ──────────────────────────────────────
+
+-- A call that is accepted, its translation made.
+pub record CallAccepted (s target : List ℕ) (args : List ℤ) (depth : ℕ) (frames records : List ℤ) : Type 0 where
+  pub bytes : Bytes s
+  pub isAccepted : checkOf s ≡ accepted
+  pub fits : length (translationOf s) ≤ 65535
+  pub arguments : length args ≡ functionOf (programOf s) 0 .params
+  pub depthBound : depth ≤ 256
+  pub framesFit : 48 * depth ≤ length frames
+  pub recordsFit : 48 * depth ≤ length records
+  pub isTarget : target ≡ translationOf s
+
+-- What both runs come to.
+pub record MachinesRan (s : List ℕ) (args : List ℤ) (depth budget : ℕ) (a : Sides) (frames frames′ records records′ : List ℤ) : Type 0 where
+  pub said : sidesTold a ≡ tellsBy accepted (length (translationOf s)) (benchRun s args depth budget) (extrasOf s args depth budget) (controllerRun s args depth budget)
+  pub together : RanTogether s args depth budget a frames frames′ records records′

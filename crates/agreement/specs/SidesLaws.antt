@@ -15,7 +15,7 @@ use Rattle.semantics.specs.Run.{Stop, ended, spent, deep, broken, Result, told,
 use Rattle.semantics.specs.Bench.{State}
 use Rattle.semantics.specs.Controller.{Control, controller}
 use Rattle.semantics.specs.Statement.{StopsMatch}
-use Rattle.semantics.specs.StopLaws.{Together, bench-few, extras-few}
+use Rattle.semantics.specs.StopLaws.{Together, bench-bound, extras-bound}
 use Rattle.parsing.specs.declared.Refusal.{Refusal}
 use Rattle.parsing.specs.declared.Checked.{Checked}
 use Rattle.parsing.specs.declared.Checked.the-variants.{Accepted, Refused}
@@ -39,24 +39,8 @@ use Rattle.controller.specs.Published as Controller
 use Rattle.controller.specs.Published.{controllerTells}
 use Rattle.agreement.specs.declared.Sides.{Sides}
 use Rattle.agreement.specs.Statement.{Claim}
-use Rattle.agreement.specs.Sides.{unless, mainVerdict, wordsVerdict, judgedCall, sidesVerdict, Tells, refuses, tells, saidOf, sidesTold, benchRun, extrasOf, controllerBudget, controllerRun, tellsBy, sidesTell, RanTogether, MemoryBy, SidesMemory}
+use Rattle.agreement.specs.Sides.{unless, mainVerdict, wordsVerdict, judgedCall, sidesVerdict, Tells, refuses, tells, saidOf, sidesTold, benchRun, extrasOf, controllerBudget, controllerRun, tellsBy, sidesTell, RanTogether, MemoryBy, SidesMemory, CallAccepted, MachinesRan}
 use Rattle.agreement.specs.Theorem.{bench-accepts, bench-tells, controller-accepts, controller-tells, told-more, runs-together, files-agree}
-
--- A call that is accepted, its translation made.
-pub record Ready (s target : List ℕ) (args : List ℤ) (depth : ℕ) (frames records : List ℤ) : Type 0 where
-  pub bytes : Bytes s
-  pub isAccepted : checkOf s ≡ accepted
-  pub fits : length (translationOf s) ≤ 65535
-  pub arguments : length args ≡ functionOf (programOf s) 0 .params
-  pub low : depth ≤ 256
-  pub framesFit : 48 * depth ≤ length frames
-  pub recordsFit : 48 * depth ≤ length records
-  pub isTarget : target ≡ translationOf s
-
--- What both runs come to.
-pub record BothRan (s : List ℕ) (args : List ℤ) (depth budget : ℕ) (a : Sides) (frames frames′ records records′ : List ℤ) : Type 0 where
-  pub said : sidesTold a ≡ tellsBy accepted (length (translationOf s)) (benchRun s args depth budget) (extrasOf s args depth budget) (controllerRun s args depth budget)
-  pub together : RanTogether s args depth budget a frames frames′ records records′
 
 -- ── What an answer says, part by part ───────────────────────────────────────────────────────────
 
@@ -88,14 +72,14 @@ controller-says a x k h = by (a .verdict) refl h
 said-alike : {t t′ k k′ e e′ m m′ : ℕ} {x x′ y y′ : Stop (Unit {0})} → t ≡ t′ → x ≡ x′ → k ≡ k′ → e ≡ e′ → y ≡ y′ → m ≡ m′ → tells t x k e y m ≡ tells t′ x′ k′ e′ y′ m′
 said-alike a b c d e f = cc (a, b, c, d, e, f)
 
-locals-few : (P : Program) → All FunctionInRange P → (g : ℕ) → functionOf P g .locals ≤ 24
-locals-few [] a g = omega arith
-locals-few (F ∷ Fs) a zero = a .0 .locals
-locals-few (F ∷ Fs) a (suc g) = locals-few Fs (a .1) g
+locals-bound : (P : Program) → All FunctionInRange P → (g : ℕ) → functionOf P g .locals ≤ 24
+locals-bound [] a g = omega arith
+locals-bound (F ∷ Fs) a zero = a .0 .locals
+locals-bound (F ∷ Fs) a (suc g) = locals-bound Fs (a .1) g
 
 -- ── Both runs ───────────────────────────────────────────────────────────────────────────────────
 
-module _ {s target : List ℕ} {args : List ℤ} {depth : ℕ} {frames records : List ℤ} (R : Ready s target args depth frames records) (budget : ℕ) where
+module _ {s target : List ℕ} {args : List ℤ} {depth : ℕ} {frames records : List ℤ} (R : CallAccepted s target args depth frames records) (budget : ℕ) where
   claim : Claim s args depth
   claim = files-agree s (R .bytes) (R .isAccepted) (R .fits) args (R .arguments) depth
 
@@ -114,15 +98,15 @@ module _ {s target : List ℕ} {args : List ℤ} {depth : ℕ} {frames records :
   -- The bench's answer.
   module _ (a : BenchAnswer.Answer) (tb : Bench.toldBy a ≡ benchTells s args depth budget (length frames)) where
     bench-told : Bench.toldBy a ≡ Bench.tells (told (b .stop)) (b .steps) x
-    bench-told = tb ∙ bench-tells s args depth (length frames) (R .isAccepted) (R .arguments) (R .low) (R .framesFit) budget
+    bench-told = tb ∙ bench-tells s args depth (length frames) (R .isAccepted) (R .arguments) (R .depthBound) (R .framesFit) budget
 
     said-so : BenchSays a (told (b .stop)) (b .steps) x
     said-so = bench-says a (told (b .stop)) (b .steps) x bench-told
 
     pub sum-small : budget < 4294967296 → a .steps + a .extras < 9223372036854775808
     sum-small h =
-        let k : b .steps ≤ budget = bench-few (programOf s) 0 args depth budget in
-        let l : x ≤ 24 + 25 * budget = extras-few (programOf s) 24 (locals-few (programOf s) (is-writing s (R .bytes) (R .isAccepted) .0 .inRange .functions)) 0 args depth budget in
+        let k : b .steps ≤ budget = bench-bound (programOf s) 0 args depth budget in
+        let l : x ≤ 24 + 25 * budget = extras-bound (programOf s) 24 (locals-bound (programOf s) (is-writing s (R .bytes) (R .isAccepted) .0 .inRange .functions)) 0 args depth budget in
         let p : a .steps ≡ b .steps = said-so .steps in
         let q : a .extras ≡ x = said-so .extras in
         omega arith
@@ -162,7 +146,7 @@ module _ {s target : List ℕ} {args : List ℤ} {depth : ℕ} {frames records :
             tc
             ∙ (ap (λ (t : List ℕ). controllerTells t args depth n (length records)) (R .isTarget)
             ∙ (ap (λ (k : ℕ). controllerTells (translationOf s) args depth k (length records)) (en ∙ budget-is)
-            ∙ controller-tells (translationOf s) args depth (length records) (claim .isAccepted) (claim .arguments) (R .low) (R .recordsFit) (controllerBudget s args depth budget)))
+            ∙ controller-tells (translationOf s) args depth (length records) (claim .isAccepted) (claim .arguments) (R .depthBound) (R .recordsFit) (controllerBudget s args depth budget)))
 
         control-said : ControllerSays c (told (controllerRun s args depth budget .stop)) (controllerRun s args depth budget .steps)
         control-said = controller-says c (told (controllerRun s args depth budget .stop)) (controllerRun s args depth budget .steps) control-told
@@ -172,16 +156,16 @@ module _ {s target : List ℕ} {args : List ℤ} {depth : ℕ} {frames records :
             subst (λ (k : ℕ). Controller.ControllerWords (translationOf s) args depth k c records records′) (en ∙ budget-is)
             (subst (λ (t : List ℕ). Controller.ControllerWords t args depth n c records records′) (R .isTarget) wc)
 
-        pub both-ran : BothRan s args depth budget (record { verdict = Accepted; target = length target; bench = a; controller = c }) frames frames′ records records′
-        both-ran =
+        pub machines-ran : MachinesRan s args depth budget (record { verdict = Accepted; target = length target; bench = a; controller = c }) frames frames′ records records′
+        machines-ran =
             record {
               said = said-alike (ap length (R .isTarget)) (said-so .stop) (said-so .steps) (said-so .extras) (control-said .stop) (control-said .steps);
               together =
                   record {
-                    frameWords = subst (λ (v : Verdict). Bench.WordsBy v s depth (b .stop) (a .regs) (a .vars) frames frames′) (bench-accepts s args depth (length frames) (R .isAccepted) (R .arguments) (R .low) (R .framesFit)) wb;
+                    frameWords = subst (λ (v : Verdict). Bench.WordsBy v s depth (b .stop) (a .regs) (a .vars) frames frames′) (bench-accepts s args depth (length frames) (R .isAccepted) (R .arguments) (R .depthBound) (R .framesFit)) wb;
                     recordWords =
                         subst (λ (v : Verdict). Controller.WordsBy v (translationOf s) depth (controllerRun s args depth budget .stop) (c .regs) (c .slots) records records′)
-                        (controller-accepts (translationOf s) args depth (length records) (claim .isAccepted) (claim .arguments) (R .low) (R .recordsFit)) control-words;
+                        (controller-accepts (translationOf s) args depth (length records) (claim .isAccepted) (claim .arguments) (R .depthBound) (R .recordsFit)) control-words;
                     stops = stopped;
                     counted =
                         control-said .steps
@@ -204,9 +188,9 @@ unless-accepted false n e = let z : _≡_ {A = ℕ} 0 1 = cc in absurd (omega ar
 loaded-parameters : {s starts handlers params locals blocks : List ℕ} → Loaded s starts handlers params locals blocks → getD params 0 0 ≡ functionOf (programOf s) 0 .params
 loaded-parameters {s} L = L .tables .countEntries 0 (is-writing s (L .bytes) (L .isAccepted) .0 .inRange .some) .paramsAre
 
-first-few : (P : Program) → All FunctionInRange P → functionOf P 0 .params ≤ 8
-first-few [] a = omega arith
-first-few (F ∷ Fs) a = a .0 .params
+first-bound : (P : Program) → All FunctionInRange P → functionOf P 0 .params ≤ 8
+first-bound [] a = omega arith
+first-bound (F ∷ Fs) a = a .0 .params
 
 -- The file's own checks, then 14.
 module _ (s : List ℕ) (given : ℕ) {v : Checked} (e : verdictOf v ≡ checkOf s) where
@@ -219,10 +203,10 @@ module _ (s : List ℕ) (given : ℕ) {v : Checked} (e : verdictOf v ≡ checkOf
     passed : checkOf s ≡ accepted
     passed = sym e ∙ ap verdictOf q
 
-    pub parameters-few : getD params′ 0 0 ≤ 8
-    parameters-few =
+    pub parameters-bound : getD params′ 0 0 ≤ 8
+    parameters-bound =
         let L : Loaded s starts′ handlers′ params′ locals′ blocks′ = subst (λ (u : Verdict). LoadedOr u s starts handlers params locals blocks starts′ handlers′ params′ locals′ blocks′) passed l in
-        subst (λ (k : ℕ). k ≤ 8) (sym (loaded-parameters L)) (first-few (programOf s) (is-writing s (L .bytes) (L .isAccepted) .0 .inRange .functions))
+        subst (λ (k : ℕ). k ≤ 8) (sym (loaded-parameters L)) (first-bound (programOf s) (is-writing s (L .bytes) (L .isAccepted) .0 .inRange .functions))
 
     main-is : (c : Bool) → eqb given (getD params′ 0 0) ≡ c → unless c 14 ≡ mainVerdict s given
     unfolding mainVerdict
@@ -333,7 +317,7 @@ pub record Passed (s : List ℕ) (given depth frames records : ℕ) : Type 0 whe
   pub isAccepted : checkOf s ≡ accepted
   pub arguments : given ≡ functionOf (programOf s) 0 .params
   pub fits : length (translationOf s) ≤ 65535
-  pub low : depth ≤ 256
+  pub depthBound : depth ≤ 256
   pub framesFit : 48 * depth ≤ frames
   pub recordsFit : 48 * depth ≤ records
 
@@ -349,7 +333,7 @@ passes s given depth frames records h =
       isAccepted = m .0;
       arguments = m .1;
       fits = leb-true (length (translationOf s)) 65535 (unless-accepted (leb (length (translationOf s)) 65535) 17 (b .0));
-      low = leb-true depth 256 (unless-accepted (leb depth 256) 16 (c .0));
+      depthBound = leb-true depth 256 (unless-accepted (leb depth 256) 16 (c .0));
       framesFit = leb-true (48 * depth) frames (unless-accepted (leb (48 * depth) frames) 16 (d .0));
       recordsFit = leb-true (48 * depth) records (unless-accepted (leb (48 * depth) records) 16 (d .1));
     }
@@ -414,14 +398,14 @@ module _ (s : List ℕ) (args : List ℤ) (depth budget : ℕ) (frames : List �
               let k : n ≡ length (translationOf s) = fit .size in
               omega arith
 
-          pub is-ready : Bytes s → Ready s (take n room′) args depth frames records
-          is-ready bytes =
+          pub call-accepted : Bytes s → CallAccepted s (take n room′) args depth frames records
+          call-accepted bytes =
               record {
                 bytes = bytes;
                 isAccepted = passed-call .isAccepted;
                 fits = passed-call .fits;
                 arguments = passed-call .arguments;
-                low = passed-call .low;
+                depthBound = passed-call .depthBound;
                 framesFit = passed-call .framesFit;
                 recordsFit = passed-call .recordsFit;
                 isTarget =
@@ -429,9 +413,9 @@ module _ (s : List ℕ) (args : List ℤ) (depth budget : ℕ) (frames : List �
                     ∙ (ap (λ (d : List ℕ). take (length (translationOf s)) d) room-is ∙ take-append-seam (translationOf s) (drop (length (translationOf s)) room));
               }
 
-          pub ran-both : (a : Sides) (frames′ records′ : List ℤ) → BothRan s args depth budget a frames frames′ records records′ → Answered s args depth budget a frames frames′ room room′ records records′
+          pub call-ran : (a : Sides) (frames′ records′ : List ℤ) → MachinesRan s args depth budget a frames frames′ records records′ → Answered s args depth budget a frames frames′ room room′ records records′
           unfolding sidesTell
-          ran-both a frames′ records′ B =
+          call-ran a frames′ records′ B =
               let g : sidesVerdict s (length args) depth (length frames) (length room) (length records) ≡ accepted = verdict-is true (fit .roomy) in (
                 B .said ∙ ap (λ (u : Verdict). tellsBy u (length (translationOf s)) (benchRun s args depth budget) (extrasOf s args depth budget) (controllerRun s args depth budget)) (sym g),
                 subst (λ (u : Verdict). MemoryBy u s args depth budget a frames frames′ room room′ records records′) (sym g) ((room-is, B .together)),

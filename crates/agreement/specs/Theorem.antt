@@ -72,24 +72,24 @@ source P h =
 -- ── What each machine tells where it does not refuse ────────────────────────────────────────────
 
 module _ (s : List ℕ) (args : List ℤ) (depth frames : ℕ) (ok : Procedure.checkOf s ≡ accepted) (la : length args ≡ functionOf (Procedure.programOf s) 0 .params)
-    (low : depth ≤ 256) (room : 48 * depth ≤ frames) where
+    (depthBound : depth ≤ 256) (room : 48 * depth ≤ frames) where
   pub bench-accepts : benchVerdict s (length args) depth frames ≡ accepted
   unfolding benchVerdict
   bench-accepts =
       ap (λ (v : Verdict). orElse v (callVerdict (length args) (functionOf (Procedure.programOf s) 0 .params) depth frames)) ok
-      ∙ sym (verdict-accepted (length args) (functionOf (Procedure.programOf s) 0 .params) depth frames la low room)
+      ∙ sym (verdict-accepted (length args) (functionOf (Procedure.programOf s) 0 .params) depth frames la depthBound room)
 
   pub bench-tells : (budget : ℕ) → benchTells s args depth budget frames ≡ Bench.tells (told (bench (Procedure.programOf s) 0 args depth budget .stop)) (bench (Procedure.programOf s) 0 args depth budget .steps) (extras (Procedure.programOf s) 0 args depth budget)
   unfolding benchTells
   bench-tells budget = ap (λ (v : Verdict). Bench.tellsBy v (bench (Procedure.programOf s) 0 args depth budget) (extras (Procedure.programOf s) 0 args depth budget)) bench-accepts
 
 module _ (t : List ℕ) (args : List ℤ) (depth records : ℕ) (ok : Target.checkOf t ≡ accepted) (la : length args ≡ targetOf (Target.codeOf t) 0 .params)
-    (low : depth ≤ 256) (room : 48 * depth ≤ records) where
+    (depthBound : depth ≤ 256) (room : 48 * depth ≤ records) where
   pub controller-accepts : controllerVerdict t (length args) depth records ≡ accepted
   unfolding controllerVerdict
   controller-accepts =
       ap (λ (v : Verdict). orElse v (callVerdict (length args) (targetOf (Target.codeOf t) 0 .params) depth records)) ok
-      ∙ sym (verdict-accepted (length args) (targetOf (Target.codeOf t) 0 .params) depth records la low room)
+      ∙ sym (verdict-accepted (length args) (targetOf (Target.codeOf t) 0 .params) depth records la depthBound room)
 
   pub controller-tells : (budget : ℕ) → controllerTells t args depth budget records ≡ Controller.tells (told (controller (Target.codeOf t) 0 args depth budget .stop)) (controller (Target.codeOf t) 0 args depth budget .steps)
   unfolding controllerTells
@@ -118,15 +118,15 @@ module _ (s : List ℕ) (args : List ℤ) (depth : ℕ) (ok : Procedure.checkOf 
   runs-together = together P agree (benchMoves .moves) (controllerMoves .moves) (bench-again P 0 args depth) (controller-left (Target.codeOf (translationOf s)) 0 args depth)
 
   answers-agree : depth ≤ 256 → (budget frames records : ℕ) → 48 * depth ≤ frames → 48 * depth ≤ records → AnswersAgree s args depth budget frames records
-  answers-agree low budget frames records lf lr =
+  answers-agree depthBound budget frames records lf lr =
       record {
         stop = told (b .stop);
         steps = b .steps;
         extras = x;
-        benchTold = bench-tells s args depth frames ok la low lf budget;
+        benchTold = bench-tells s args depth frames ok la depthBound lf budget;
         controllerTold =
             ap (λ (k : ℕ). controllerTells (translationOf s) args depth (b .steps + x + k) records) (told-more (b .stop))
-            ∙ (controller-tells (translationOf s) args depth records accepts lt low lr (b .steps + x + oneMoreIfDeep (b .stop))
+            ∙ (controller-tells (translationOf s) args depth records accepts lt depthBound lr (b .steps + x + oneMoreIfDeep (b .stop))
             ∙ (ap (λ (y : Stop (Unit {0})). Controller.tells y (C (b .steps + x + oneMoreIfDeep (b .stop)) .steps)) (runs-together budget .stops .alike)
             ∙ ap (λ (k : ℕ). Controller.tells (told (b .stop)) k) (runs-together budget .steps)));
       }

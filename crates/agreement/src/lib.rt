@@ -12,8 +12,7 @@ ghost use Rattle.parsing.specs.Parser.{verdictOf, accepted};
 ghost use Rattle.procedure_file.specs.Check.{checkOf};
 ghost use Rattle.translator.specs.Translated.{translationOf};
 ghost use Rattle.bench.specs.Published.{stoppedAs};
-ghost use Rattle.agreement.specs.Sides.{mainVerdict, wordsVerdict, judgedCall, sidesTold, sidesTell, SidesMemory};
-ghost use Rattle.agreement.specs.SidesLaws.{Ready, BothRan};
+ghost use Rattle.agreement.specs.Sides.{mainVerdict, wordsVerdict, judgedCall, sidesTold, sidesTell, SidesMemory, CallAccepted, MachinesRan};
 
 // The answer of the call: the verdict on it; where it is accepted the bytes of the translation and the answers of both machines.
 pub struct Sides {
@@ -134,8 +133,8 @@ fn run_both(
     frames: &mut [i32],
     records: &mut [i32],
 ) -> Sides
-    requires { ⌜ Ready (now file) (now target) (now arguments) depth (now frames) (now records) ⌝ }
-    ensures { λ a. ⌜ BothRan (now (file .entry)) (now (arguments .entry)) depth budget a (now (frames .entry)) (now (frames .exit)) (now (records .entry)) (now (records .exit)) ⌝ }
+    requires { ⌜ CallAccepted (now file) (now target) (now arguments) depth (now frames) (now records) ⌝ }
+    ensures { λ a. ⌜ MachinesRan (now (file .entry)) (now (arguments .entry)) depth budget a (now (frames .entry)) (now (frames .exit)) (now (records .entry)) (now (records .exit)) ⌝ }
 {
     let b = bench::machine::run(file, arguments, depth, budget, frames);
     let stopped = b.stopped;
@@ -164,7 +163,7 @@ fn refused(r: Refusal) -> Sides
             stopped: bench::machine::Stopped::Spent,
             steps: 0,
             extras: 0,
-            regs: bench::step::Regs {
+            regs: bench_step::step::Regs {
                 function: 0,
                 handler: 0,
                 at: 0,
@@ -177,7 +176,7 @@ fn refused(r: Refusal) -> Sides
             verdict: Checked::Refused(r),
             stopped: controller::machine::Stopped::Spent,
             steps: 0,
-            regs: controller::step::Regs { at: 0, records: 0 },
+            regs: controller_step::step::Regs { at: 0, records: 0 },
             slots: [0i32; 36],
         },
     }

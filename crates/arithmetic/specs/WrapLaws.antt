@@ -11,7 +11,7 @@ use mir.Syntax.{w32, w64}
 use mir.Val.{SFits, toZ, ofZ}
 use mir.Facts.{toZ-ofZ}
 use Rattle.semantics.specs.Value.{wrapped}
-use Rattle.semantics.specs.ValueLaws.{IsValue, low, high, wrapped-value, wrapped-same}
+use Rattle.semantics.specs.ValueLaws.{IsValue, toZ-below-half, toZ-from-half, wrapped-value, wrapped-same}
 
 impossible : {A : Type 0} → false ≡ true → A
 impossible e = let z : _≡_ {A = ℕ} 0 1 = cc in absurd (omega arith)
@@ -24,7 +24,7 @@ below-wraps (negsuc a) h e =
     let l : 2147483647 < a = ltb-true 2147483647 a e in
     let q : a % 4294967296 ≡ a = omega arith in
     ap (λ (c : Bool). cond c (negsuc (suc a - suc 4294967296)) (pos (4294967296 - suc a))) (le-ltb 4294967296 (suc a) (omega arith))
-    ∙ sym (low (4294967296 - suc (a % 4294967296)) (omega arith) ∙ ap (λ (k : ℕ). pos (4294967296 - suc k)) q)
+    ∙ sym (toZ-below-half (4294967296 - suc (a % 4294967296)) (omega arith) ∙ ap (λ (k : ℕ). pos (4294967296 - suc k)) q)
 
 -- Above it.
 pub above-wraps : (d : ℤ) → mag d < 4294967296 → ltZ (pos 2147483647) d ≡ true → d -ℤ pos 4294967296 ≡ wrapped d
@@ -34,7 +34,7 @@ above-wraps (pos a) h e =
     let l : 2147483647 < a = ltb-true 2147483647 a e in
     let q : a % 4294967296 ≡ a = omega arith in
     ap (λ (c : Bool). cond c (negsuc (4294967296 - suc a)) (pos (a - 4294967296))) (lt-ltb a 4294967296 (omega arith))
-    ∙ sym (high (a % 4294967296) (omega arith) ∙ ap (λ (k : ℕ). negsuc (4294967296 - suc k)) q)
+    ∙ sym (toZ-from-half (a % 4294967296) (omega arith) ∙ ap (λ (k : ℕ). negsuc (4294967296 - suc k)) q)
 
 -- In it.
 pub within-range : (d : ℤ) → ltZ d (negsuc 2147483647) ≡ false → ltZ (pos 2147483647) d ≡ false → IsValue d
@@ -59,15 +59,15 @@ difference-small (negsuc a) (negsuc b) h l = sub-mag (suc b) (suc a) (omega arit
 
 -- What a 64-bit sum that is a value in range becomes as 32 bits.
 pub record Narrowed (v w : ℤ) : Type 0 where
-  pub wide : SFits w64 v
+  pub fits64 : SFits w64 v
   pub narrow : SFits w32 (toZ w64 (ofZ w64 v))
   pub same : toZ w32 (ofZ w32 (toZ w64 (ofZ w64 v))) ≡ w
 
 pub narrowed : (v w : ℤ) → v ≡ w → IsValue w → Narrowed v w
-narrowed v w e h = subst (λ (x : ℤ). Narrowed x w) (sym e) (record { wide = wide; narrow = subst (λ (x : ℤ). SFits w32 x) (sym (toZ-ofZ wide)) narrow; same = ap (λ (x : ℤ). toZ w32 (ofZ w32 x)) (toZ-ofZ wide) ∙ toZ-ofZ narrow })
+narrowed v w e h = subst (λ (x : ℤ). Narrowed x w) (sym e) (record { fits64 = fits64; narrow = subst (λ (x : ℤ). SFits w32 x) (sym (toZ-ofZ fits64)) narrow; same = ap (λ (x : ℤ). toZ w32 (ofZ w32 x)) (toZ-ofZ fits64) ∙ toZ-ofZ narrow })
   where
-    wide : SFits w64 w
-    wide = record { sfits = omega arith }
+    fits64 : SFits w64 w
+    fits64 = record { sfits = omega arith }
 
     narrow : SFits w32 w
     narrow = record { sfits = omega arith }

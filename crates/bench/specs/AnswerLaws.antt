@@ -14,12 +14,12 @@ use Rattle.parsing.specs.Parser.{Verdict, accepted, refused, verdictOf, orElse}
 use Rattle.memory.specs.Call.{callVerdict}
 use Rattle.memory.specs.CallLaws.{accepted-fits}
 use Rattle.procedure_file.specs.Check.{checkOf, programOf}
-use Rattle.procedure_file.specs.Loaded.{LoadedOr}
-use Rattle.procedure_file.specs.Loaded as File
-use Rattle.procedure_file.specs.FactsLaws.{facts}
+use Rattle.procedure_file.specs.MachineTables.{LoadedOr}
+use Rattle.procedure_file.specs.MachineTables as File
+use Rattle.procedure_file.specs.FileInvariantLaws.{invariant}
 use Rattle.bench.specs.declared.machine.Answer.{Answer}
-use Rattle.bench.specs.FileFacts.{functionAt, Loaded}
-use Rattle.bench.specs.StandsLaws.{loaded}
+use Rattle.bench_step.specs.MachineTables.{functionAt, MachineTables}
+use Rattle.bench_step.specs.StandsLaws.{loaded}
 use Rattle.bench.specs.Published.{Tells, refuses, tells, saidOf, toldBy, benchVerdict, tellsBy, benchTells, WordsBy, BenchWords}
 use Rattle.bench.specs.StartLaws.{CallFits, RunAnswered}
 
@@ -46,14 +46,14 @@ module _ (s starts handlers params locals blocks starts′ handlers′ params′
   accepted-is : checkOf s ≡ accepted
   accepted-is = sym e ∙ ap verdictOf q
 
-  given : File.Loaded s starts′ handlers′ params′ locals′ blocks′
+  given : File.MachineTables s starts′ handlers′ params′ locals′ blocks′
   given = subst (λ (x : Verdict). LoadedOr x s starts handlers params locals blocks starts′ handlers′ params′ locals′ blocks′) accepted-is l
 
-  pub tables : Loaded s starts′ handlers′ params′ locals′
-  tables = loaded (facts s (given .bytes) (given .isAccepted)) (given .tables)
+  pub tables : MachineTables s starts′ handlers′ params′ locals′
+  tables = loaded (invariant s (given .bytes) (given .isAccepted)) (given .tables)
 
   wanted-is : getD params′ 0 0 ≡ functionAt s 0 .params
-  wanted-is = tables .paramsAt 0 (tables .facts .least)
+  wanted-is = tables .paramsAt 0 (tables .invariant .least)
 
   module _ (args : List ℤ) (depth : ℕ) (words : List ℤ) where
     verdict-is : benchVerdict s (length args) depth (length words) ≡ callVerdict (length args) (getD params′ 0 0) depth (length words)
@@ -68,7 +68,7 @@ module _ (s starts handlers params locals blocks starts′ handlers′ params′
     pub call-fits : {u : Checked} → verdictOf u ≡ callVerdict (length args) (getD params′ 0 0) depth (length words) → u ≡ Accepted → CallFits s args depth words
     call-fits f p =
         let k : (length args ≡ getD params′ 0 0) × (depth ≤ 256) × (48 * depth ≤ length words) = accepted-fits (length args) (getD params′ 0 0) depth (length words) (sym f ∙ ap verdictOf p) in
-        record { arguments = k .0 ∙ wanted-is; low = k .1; room = k .2 }
+        record { arguments = k .0 ∙ wanted-is; depthBound = k .1; room = k .2 }
 
     pub call-answered : (budget : ℕ) (a : Answer) (words′ : List ℤ) {u : Checked} → verdictOf u ≡ callVerdict (length args) (getD params′ 0 0) depth (length words) → u ≡ Accepted → RunAnswered s args depth budget a words words′ → Answered s args depth budget a words words′
     unfolding benchTells
@@ -79,4 +79,4 @@ module _ (s starts handlers params locals blocks starts′ handlers′ params′
         )
 
   pub wanted-small : getD params′ 0 0 ≤ 8
-  wanted-small = subst (λ (k : ℕ). k ≤ 8) (sym wanted-is) (tables .paramsFew 0 (tables .facts .least))
+  wanted-small = subst (λ (k : ℕ). k ≤ 8) (sym wanted-is) (tables .paramsBound 0 (tables .invariant .least))

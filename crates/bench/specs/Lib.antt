@@ -1,16 +1,7 @@
--- The bench machine. Definitions: FileFacts, Machine. Laws: the others.
-pub mod FileFacts
-pub mod Machine
-pub mod StandsLaws
-pub mod StepLaws
-pub mod FrameStepLaws
-pub mod CallLaws
-pub mod RunningLaws
-pub mod LoadedLaws
-pub mod GuardLaws
-pub mod ArgumentLaws
-pub mod Finished
-pub mod TurnLaws
+-- Runs of the bench. Definitions: RunResult (going on from a state), Published (what a call tells and leaves).
+pub mod RunResult
 pub mod Published
+-- Laws.
+pub mod TurnLaws
 pub mod StartLaws
 pub mod AnswerLaws

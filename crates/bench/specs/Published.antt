@@ -1,5 +1,5 @@
 -- What a call of the bench tells, and what the lent words then hold.
-use Prim.Native.Nat.{ℕ, _*_, _-_}
+use Prim.Native.Nat.{ℕ, _*_, _-_, _≤_}
 use mathlib.Core.Path.{_≡_}
 use mathlib.Core.List.{List, [], _++_}
 use lib.IntN.{ℤ, pos}
@@ -13,11 +13,12 @@ use Rattle.parsing.specs.declared.Checked.the-variants.{Accepted, Refused}
 use Rattle.parsing.specs.Parser.{Verdict, accepted, refused, orElse}
 use Rattle.memory.specs.Call.{callVerdict}
 use Rattle.procedure_file.specs.Check.{checkOf, programOf}
-use Rattle.bench.specs.declared.step.Regs.{Regs}
+use Rattle.bench_step.specs.declared.step.Regs.{Regs}
 use Rattle.bench.specs.declared.machine.Stopped.{Stopped}
 use Rattle.bench.specs.declared.machine.Stopped.the-variants.{Value, Uncaught, Spent, Deep}
 use Rattle.bench.specs.declared.machine.Answer.{Answer}
-use Rattle.bench.specs.Machine.{framesOf, stateOf}
+use Rattle.bench_step.specs.Machine.{framesOf, stateOf}
+use Rattle.bench_step.specs.MachineTables.{functionAt}
 
 -- A refusal's number and place; or how the run stopped, the steps taken, the extras.
 pub data Tells : Type 0 where
@@ -74,7 +75,7 @@ pub record WordsAfter (s : List ℕ) (depth : ℕ) (stop : Stop State) (r : Regs
   pub waiting : framesOf s words′ (length (framesLeft stop)) ≡ framesLeft stop
   pub others : drop (48 * length (framesLeft stop)) words′ ≡ replicate (48 * depth - 48 * length (framesLeft stop)) (pos 0) ++ drop (48 * depth) words
   pub current : GivesState s stop r vs words′
-  pub long : length words′ ≡ length words
+  pub sameLength : length words′ ≡ length words
 
 -- A refusal changes no lent word.
 abbrev pub WordsBy : Verdict → List ℕ → ℕ → Stop State → Regs → List ℤ → List ℤ → List ℤ → Type 0
@@ -84,3 +85,23 @@ WordsBy (refused n p) s depth stop r vs words words′ = words′ ≡ words
 abbrev pub BenchWords : List ℕ → List ℤ → ℕ → ℕ → Answer → List ℤ → List ℤ → Type 0
 BenchWords s args depth budget a words words′ =
     WordsBy (benchVerdict s (length args) depth (length words)) s depth (bench (programOf s) 0 args depth budget .stop) (a .regs) (a .vars) words words′
+
+-- ── What the run behind a call is asked, and what it gives ──────────────────────────────────────
+
+-- How many frames wait where a run stopped.
+abbrev pub leftWaiting : Stopped → ℕ → ℕ
+leftWaiting (Value z) w = 0
+leftWaiting Uncaught w = 0
+leftWaiting Spent w = w
+leftWaiting Deep w = w
+
+-- What an accepted call gives: arguments, depth and words that fit.
+pub record CallFits (s : List ℕ) (args : List ℤ) (depth : ℕ) (words : List ℤ) : Type 0 where
+  pub arguments : length args ≡ functionAt s 0 .params
+  pub depthBound : depth ≤ 256
+  pub room : 48 * depth ≤ length words
+
+-- The answer of a run.
+pub record RunAnswered (s : List ℕ) (args : List ℤ) (depth budget : ℕ) (a : Answer) (words words′ : List ℤ) : Type 0 where
+  pub said : toldBy a ≡ tells (told (bench (programOf s) 0 args depth budget .stop)) (bench (programOf s) 0 args depth budget .steps) (extras (programOf s) 0 args depth budget)
+  pub held : WordsAfter s depth (bench (programOf s) 0 args depth budget .stop) (a .regs) (a .vars) words words′

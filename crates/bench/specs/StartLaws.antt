@@ -18,36 +18,18 @@ use Rattle.memory.specs.Lay.{lay}
 use Rattle.memory.specs.LayLaws.{take-lay, drop-lay, length-lay}
 use Rattle.procedure_layout.specs.Rest.{restAt}
 use Rattle.procedure_file.specs.Check.{programOf}
-use Rattle.bench.specs.declared.step.Regs.{Regs}
+use Rattle.bench_step.specs.declared.step.Regs.{Regs}
 use Rattle.bench.specs.declared.machine.Stopped.{Stopped}
 use Rattle.bench.specs.declared.machine.Stopped.the-variants.{Value, Uncaught, Spent, Deep}
 use Rattle.bench.specs.declared.machine.Ran.{Ran}
 use Rattle.bench.specs.declared.machine.Answer.{Answer}
-use Rattle.bench.specs.FileFacts.{functionAt, varsOf, Loaded}
-use Rattle.bench.specs.Machine.{framesOf, stateOf, Held}
-use Rattle.bench.specs.StepLaws.{length-frames, vars-few}
-use Rattle.bench.specs.FrameStepLaws.{frames-same}
-use Rattle.bench.specs.Finished.{stopOf, CanGoOn, Finished}
-use Rattle.procedure_file.specs.Facts.{Stands}
-use Rattle.bench.specs.Published.{framesIn, framesLeft, GivesState, WordsAfter, stoppedAs, toldBy, tells}
-
--- How many frames wait where a run stopped.
-abbrev pub leftWaiting : Stopped → ℕ → ℕ
-leftWaiting (Value z) w = 0
-leftWaiting Uncaught w = 0
-leftWaiting Spent w = w
-leftWaiting Deep w = w
-
--- What an accepted call gives: arguments, depth and words that fit.
-pub record CallFits (s : List ℕ) (args : List ℤ) (depth : ℕ) (words : List ℤ) : Type 0 where
-  pub arguments : length args ≡ functionAt s 0 .params
-  pub low : depth ≤ 256
-  pub room : 48 * depth ≤ length words
-
--- The answer of a run.
-pub record RunAnswered (s : List ℕ) (args : List ℤ) (depth budget : ℕ) (a : Answer) (words words′ : List ℤ) : Type 0 where
-  pub said : toldBy a ≡ tells (told (bench (programOf s) 0 args depth budget .stop)) (bench (programOf s) 0 args depth budget .steps) (extras (programOf s) 0 args depth budget)
-  pub held : WordsAfter s depth (bench (programOf s) 0 args depth budget .stop) (a .regs) (a .vars) words words′
+use Rattle.bench_step.specs.MachineTables.{functionAt, varsOf, MachineTables}
+use Rattle.bench_step.specs.Machine.{framesOf, stateOf, Invariant}
+use Rattle.bench_step.specs.StepLaws.{length-frames, vars-bound}
+use Rattle.bench_step.specs.FrameStepLaws.{frames-same}
+use Rattle.bench.specs.RunResult.{stopOf, CanGoOn, RunResult}
+use Rattle.procedure_file.specs.FileInvariant.{Stands}
+use Rattle.bench.specs.Published.{leftWaiting, CallFits, RunAnswered, framesIn, framesLeft, GivesState, WordsAfter, stoppedAs, toldBy, tells}
 
 drop-replicate : {A : Type 0} (n m : ℕ) (x : A) → drop n (replicate m x) ≡ replicate (m - n) x
 drop-replicate zero m x = let q : m - 0 ≡ m = omega arith in ap (λ (k : ℕ). replicate k x) (sym q)
@@ -59,12 +41,12 @@ take-replicate zero m x h = refl
 take-replicate (suc n) zero x h = absurd (omega arith)
 take-replicate {A} (suc n) (suc m) x h = ap (λ (l : List A). x ∷ l) (take-replicate n m x (omega arith))
 
-module _ {s starts handlers params locals : List ℕ} (L : Loaded s starts handlers params locals) {args : List ℤ} {depth : ℕ} {words : List ℤ} (C : CallFits s args depth words) where
+module _ {s starts handlers params locals : List ℕ} (L : MachineTables s starts handlers params locals) {args : List ℤ} {depth : ℕ} {words : List ℤ} (C : CallFits s args depth words) where
   main : 0 < length (programOf s)
-  main = L .facts .least
+  main = L .invariant .least
 
-  pub few-arguments : length args ≤ 8
-  few-arguments = let a : length args ≡ functionAt s 0 .params = C .arguments in let b : functionAt s 0 .params ≤ 8 = L .paramsFew 0 main in omega arith
+  pub arguments-bound : length args ≤ 8
+  arguments-bound = let a : length args ≡ functionAt s 0 .params = C .arguments in let b : functionAt s 0 .params ≤ 8 = L .paramsBound 0 main in omega arith
 
   -- Where the run starts.
   module _ {vs : List ℤ} {at x : ℕ} (ev : vs ≡ lay 0 (take (length args) (drop 0 args)) (replicate 32 (pos 0))) (ea : at ≡ getD starts 0 0) (ex : x ≡ getD locals 0 0) where
@@ -80,8 +62,8 @@ module _ {s starts handlers params locals : List ℕ} (L : Loaded s starts handl
     start-vars : take (varsOf s 0) vs ≡ args ++ replicate (functionAt s 0 .locals) (pos 0)
     start-vars =
         let a : length args ≡ functionAt s 0 .params = C .arguments in
-        let b : functionAt s 0 .params ≤ 8 = L .paramsFew 0 main in
-        let l : functionAt s 0 .locals ≤ 24 = L .localsFew 0 main in
+        let b : functionAt s 0 .params ≤ 8 = L .paramsBound 0 main in
+        let l : functionAt s 0 .locals ≤ 24 = L .localsBound 0 main in
         ap (λ (us : List ℤ). take (varsOf s 0) us) vars-are
         ∙ (ap (λ (k : ℕ). take (k + functionAt s 0 .locals) (args ++ replicate (32 - length args) (pos 0))) (sym a)
         ∙ (take-append-add args (replicate (32 - length args) (pos 0)) (functionAt s 0 .locals)
@@ -98,27 +80,27 @@ module _ {s starts handlers params locals : List ℕ} (L : Loaded s starts handl
 
     vars-long : length vs ≡ 32
     vars-long =
-        let n : length args ≤ 8 = few-arguments in
+        let n : length args ≤ 8 = arguments-bound in
         let t : length (take (length args) args) ≡ length args = ap length (take-length args) in
         ap length ev ∙ (length-lay 0 (take (length args) (drop 0 args)) (replicate 32 (pos 0)) (omega arith) ∙ length-replicate 32 (pos 0))
 
-    pub start-held : Held s depth begins vs words
+    pub start-held : Invariant s depth begins vs words
     start-held =
         record {
           good = subst (WellFormedState (programOf s)) (sym start-is) (start-wellFormed (programOf s) (L .wellFormed) 0 main args (C .arguments));
           here = subst (λ (k : ℕ). Stands s 0 k) (sym ea) (L .entryAt 0 main);
           frames = λ d l. absurd (omega arith);
           waiting = omega arith;
-          low = C .low;
+          depthBound = C .depthBound;
           room = C .room;
           variables = vars-long;
         }
 
     pub start-small : x < 4294967296
-    start-small = let l : functionAt s 0 .locals ≤ 24 = L .localsFew 0 main in let e : x ≡ functionAt s 0 .locals = ex ∙ L .localsAt 0 main in omega arith
+    start-small = let l : functionAt s 0 .locals ≤ 24 = L .localsBound 0 main in let e : x ≡ functionAt s 0 .locals = ex ∙ L .localsAt 0 main in omega arith
 
     -- Where it stopped.
-    module _ {budget : ℕ} {y : Ran} {us words₁ : List ℤ} (F : Finished s depth budget begins vs words y us words₁) where
+    module _ {budget : ℕ} {y : Ran} {us words₁ : List ℤ} (F : RunResult s depth budget begins vs words y us words₁) where
       abbrev left : ℕ
       left = leftWaiting (y .stopped) (y .regs .waiting)
 
@@ -143,7 +125,7 @@ module _ {s starts handlers params locals : List ℕ} (L : Loaded s starts handl
           by Deep h = h .waiting
 
       pub clear-fits : {w : ℕ} → w ≡ left → (48 * w ≤ 48 * depth) × (48 * depth ≤ length words₁)
-      clear-fits {w} e = let l : left ≤ depth = left-fits in let k : 48 * depth ≤ length words = C .room in let m : length words₁ ≡ length words = F .long in (omega arith, omega arith)
+      clear-fits {w} e = let l : left ≤ depth = left-fits in let k : 48 * depth ≤ length words = C .room in let m : length words₁ ≡ length words = F .sameLength in (omega arith, omega arith)
 
       frames-left : (k : Stopped) → length (framesLeft (stopOf s k (y .regs) us words₁)) ≡ leftWaiting k (y .regs .waiting)
       unfolding stateOf
@@ -200,7 +182,7 @@ module _ {s starts handlers params locals : List ℕ} (L : Loaded s starts handl
             let a : 48 * w ≤ 48 * depth = f .0 in
             let b : 48 * depth ≤ length words₁ = f .1 in
             let z : length (replicate (48 * depth - 48 * w) (pos 0)) ≡ 48 * depth - 48 * w = length-replicate (48 * depth - 48 * w) (pos 0) in
-            ap length ec ∙ (length-lay (48 * w) (replicate (48 * depth - 48 * w) (pos 0)) words₁ (omega arith) ∙ F .long)
+            ap length ec ∙ (length-lay (48 * w) (replicate (48 * depth - 48 * w) (pos 0)) words₁ (omega arith) ∙ F .sameLength)
 
         after-stop : WordsAfter s depth (stopOf s (y .stopped) (y .regs) us words₁) (y .regs) us words words₂
         after-stop =
@@ -208,7 +190,7 @@ module _ {s starts handlers params locals : List ℕ} (L : Loaded s starts handl
               waiting = ap (λ (k : ℕ). framesOf s words₂ k) (frames-left (y .stopped)) ∙ (frames-same s left words₂ words₁ below ∙ frames-are (y .stopped));
               others = subst (λ (k : ℕ). drop (48 * k) words₂ ≡ replicate (48 * depth - 48 * k) (pos 0) ++ drop (48 * depth) words) (sym (frames-left (y .stopped))) past;
               current = current-is (y .stopped) refl;
-              long = long-is;
+              sameLength = long-is;
             }
 
         pub answered : RunAnswered s args depth budget (record { verdict = Accepted; stopped = y .stopped; steps = y .steps; extras = y .regs .extras; regs = y .regs; vars = us }) words words₂

@@ -14,54 +14,54 @@ use Rattle.semantics.specs.Run.{End, value, uncaught, Outcome, next, end, tooDe
 use Rattle.semantics.specs.Bench.{State, step}
 use Rattle.semantics.specs.Extras.{extra}
 use Rattle.semantics.specs.RunLaws.{after-zero, after-after}
-use Rattle.semantics.specs.StopLaws.{extra-few}
+use Rattle.semantics.specs.StopLaws.{extra-bound}
 use Rattle.procedure_file.specs.Check.{programOf}
-use Rattle.bench.specs.declared.step.Regs.{Regs}
-use Rattle.bench.specs.declared.step.Step.{Step}
-use Rattle.bench.specs.declared.step.Step.the-variants.{Next, Value, Uncaught, Deep}
+use Rattle.bench_step.specs.declared.step.Regs.{Regs}
+use Rattle.bench_step.specs.declared.step.Step.{Step}
+use Rattle.bench_step.specs.declared.step.Step.the-variants.{Next, Value, Uncaught, Deep}
 use Rattle.bench.specs.declared.machine.Stopped.{Stopped}
 use Rattle.bench.specs.declared.machine.Stopped.the-variants as S
 use Rattle.bench.specs.declared.machine.Ran.{Ran}
-use Rattle.bench.specs.FileFacts.{functionAt, Loaded}
-use Rattle.bench.specs.Machine.{stateOf, Held, Done}
-use Rattle.bench.specs.Finished.{Finished}
+use Rattle.bench_step.specs.MachineTables.{functionAt, MachineTables}
+use Rattle.bench_step.specs.Machine.{stateOf, Invariant, StepResult}
+use Rattle.bench.specs.RunResult.{RunResult}
 
 -- No function has more than 24 locals; one that is not there has none.
-locals-few : {s starts handlers params locals : List ℕ} → Loaded s starts handlers params locals → (g : ℕ) → functionAt s g .locals ≤ 24
-locals-few {s} L g = by (ltb g (length (programOf s))) refl
+locals-stepBound : {s starts handlers params locals : List ℕ} → MachineTables s starts handlers params locals → (g : ℕ) → functionAt s g .locals ≤ 24
+locals-bound {s} L g = by (ltb g (length (programOf s))) refl
   where
     by : (c : Bool) → ltb g (length (programOf s)) ≡ c → functionAt s g .locals ≤ 24
-    by true e = L .localsFew g (ltb-true g (length (programOf s)) e)
+    by true e = L .localsBound g (ltb-true g (length (programOf s)) e)
     by false e = subst (λ (F : Function). F .locals ≤ 24) (sym (List·getD-eq-default (programOf s) noFunction (ltb-false g (length (programOf s)) e))) (omega arith)
 
 -- A step has at most 25 extras.
-extra-small : {s starts handlers params locals : List ℕ} → Loaded s starts handlers params locals → (S : State) → extra (programOf s) S ≤ 25
-extra-small {s} L S = extra-few (programOf s) 24 (locals-few L) S
+extra-small : {s starts handlers params locals : List ℕ} → MachineTables s starts handlers params locals → (S : State) → extra (programOf s) S ≤ 25
+extra-small {s} L S = extra-bound (programOf s) 24 (locals-bound L) S
 
 -- After n steps of a run with budget b that began at r₀, vs₀, words₀.
 pub record Turn (s : List ℕ) (limit b : ℕ) (r₀ : Regs) (vs₀ words₀ : List ℤ) (n : ℕ) (r : Regs) (vs words : List ℤ) : Type 0 where
-  pub held : Held s limit r vs words
-  pub few : n ≤ b
+  pub held : Invariant s limit r vs words
+  pub stepBound : n ≤ b
   pub left : run (step (programOf s) limit) b (stateOf s r₀ vs₀ words₀) ≡ after n (run (step (programOf s) limit) (b - n) (stateOf s r vs words))
   pub sum : r₀ .extras + total (step (programOf s) limit) (extra (programOf s)) b (stateOf s r₀ vs₀ words₀) ≡ r .extras + total (step (programOf s) limit) (extra (programOf s)) (b - n) (stateOf s r vs words)
   pub small : r .extras ≤ r₀ .extras + 25 * n
   pub kept : drop (48 * limit) words ≡ drop (48 * limit) words₀
-  pub long : length words ≡ length words₀
+  pub sameLength : length words ≡ length words₀
 
-pub turn-start : {s : List ℕ} {limit b : ℕ} {r : Regs} {vs words : List ℤ} → Held s limit r vs words → Turn s limit b r vs words 0 r vs words
+pub turn-start : {s : List ℕ} {limit b : ℕ} {r : Regs} {vs words : List ℤ} → Invariant s limit r vs words → Turn s limit b r vs words 0 r vs words
 turn-start {s} {limit} {b} {r} {vs} {words} H =
     let q : b - 0 ≡ b = omega arith in
     record {
       held = H;
-      few = omega arith;
+      stepBound = omega arith;
       left = sym (ap (λ (k : ℕ). after 0 (run (step (programOf s) limit) k (stateOf s r vs words))) q ∙ after-zero (run (step (programOf s) limit) b (stateOf s r vs words)));
       sum = ap (λ (k : ℕ). r .extras + total (step (programOf s) limit) (extra (programOf s)) k (stateOf s r vs words)) (sym q);
       small = omega arith;
       kept = refl;
-      long = refl;
+      sameLength = refl;
     }
 
-module _ {s starts handlers params locals : List ℕ} (L : Loaded s starts handlers params locals) {limit b : ℕ} {r₀ : Regs} {vs₀ words₀ : List ℤ} {n : ℕ} {r : Regs} {vs words : List ℤ} (T : Turn s limit b r₀ vs₀ words₀ n r vs words) where
+module _ {s starts handlers params locals : List ℕ} (L : MachineTables s starts handlers params locals) {limit b : ℕ} {r₀ : Regs} {vs₀ words₀ : List ℤ} {n : ℕ} {r : Regs} {vs words : List ℤ} (T : Turn s limit b r₀ vs₀ words₀ n r vs words) where
   abbrev now : State
   now = stateOf s r vs words
 
@@ -79,19 +79,19 @@ module _ {s starts handlers params locals : List ℕ} (L : Loaded s starts handl
     total-is : (o : Outcome State) → step (programOf s) limit now ≡ o → total (step (programOf s) limit) (extra (programOf s)) (b - n) now ≡ added (extra (programOf s) now) o (λ (U : State). total (step (programOf s) limit) (extra (programOf s)) (b - (n + 1)) U)
     total-is o e = ap (λ (k : ℕ). total (step (programOf s) limit) (extra (programOf s)) k now) one ∙ ap (λ (x : Outcome State). added (extra (programOf s) now) x (λ (U : State). total (step (programOf s) limit) (extra (programOf s)) (b - (n + 1)) U)) e
 
-    pub turn-next : {q : Regs} {vs′ words′ : List ℤ} → Done s limit r vs words (Next q) vs′ words′ → Turn s limit b r₀ vs₀ words₀ (n + 1) q vs′ words′
+    pub turn-next : {q : Regs} {vs′ words′ : List ℤ} → StepResult s limit r vs words (Next q) vs′ words′ → Turn s limit b r₀ vs₀ words₀ (n + 1) q vs′ words′
     turn-next {q} {vs′} {words′} D =
         let e : extra (programOf s) now ≤ 25 = extra-small L now in
         let m : r .extras ≤ r₀ .extras + 25 * n = T .small in
         let x : q .extras ≡ r .extras + extra (programOf s) now = D .held .1 in
         record {
           held = D .held .0;
-          few = omega arith;
+          stepBound = omega arith;
           left = T .left ∙ (ap (λ (y : Result State). after n y) (run-is (next (stateOf s q vs′ words′)) (sym (D .outcome))) ∙ after-after n 1 (run (step (programOf s) limit) (b - (n + 1)) (stateOf s q vs′ words′)));
           sum = T .sum ∙ (ap (λ (k : ℕ). r .extras + k) (total-is (next (stateOf s q vs′ words′)) (sym (D .outcome))) ∙ (sym (add-assoc (r .extras) (extra (programOf s) now) (total (step (programOf s) limit) (extra (programOf s)) (b - (n + 1)) (stateOf s q vs′ words′))) ∙ ap (λ (k : ℕ). k + total (step (programOf s) limit) (extra (programOf s)) (b - (n + 1)) (stateOf s q vs′ words′)) (sym x)));
           small = omega arith;
           kept = D .kept ∙ T .kept;
-          long = D .long ∙ T .long;
+          sameLength = D .sameLength ∙ T .sameLength;
         }
 
     ends : (x : End) → step (programOf s) limit now ≡ end x → run (step (programOf s) limit) b (stateOf s r₀ vs₀ words₀) ≡ record { stop = ended x; steps = n + 1 }
@@ -100,7 +100,7 @@ module _ {s starts handlers params locals : List ℕ} (L : Loaded s starts handl
     ends-sum : (x : End) → step (programOf s) limit now ≡ end x → extra (programOf s) now ≡ 0 → r₀ .extras + total (step (programOf s) limit) (extra (programOf s)) b (stateOf s r₀ vs₀ words₀) ≡ r .extras
     ends-sum x e z = T .sum ∙ (ap (λ (k : ℕ). r .extras + k) (total-is (end x) e ∙ z) ∙ add-zero (r .extras))
 
-    pub turn-value : {z : ℤ} {vs′ words′ : List ℤ} → Done s limit r vs words (Value z) vs′ words′ → Finished s limit b r₀ vs₀ words₀ (record { stopped = S.Value z; steps = n + 1; regs = r }) vs′ words′
+    pub turn-value : {z : ℤ} {vs′ words′ : List ℤ} → StepResult s limit r vs words (Value z) vs′ words′ → RunResult s limit b r₀ vs₀ words₀ (record { stopped = S.Value z; steps = n + 1; regs = r }) vs′ words′
     turn-value {z} {vs′} {words′} D =
         record {
           stop = ap (λ (y : Result State). y .stop) (ends (value z) (sym (D .outcome)));
@@ -108,10 +108,10 @@ module _ {s starts handlers params locals : List ℕ} (L : Loaded s starts handl
           extras = ends-sum (value z) (sym (D .outcome)) (D .held);
           held = tt;
           kept = D .kept ∙ T .kept;
-          long = D .long ∙ T .long;
+          sameLength = D .sameLength ∙ T .sameLength;
         }
 
-    pub turn-uncaught : {vs′ words′ : List ℤ} → Done s limit r vs words Uncaught vs′ words′ → Finished s limit b r₀ vs₀ words₀ (record { stopped = S.Uncaught; steps = n + 1; regs = r }) vs′ words′
+    pub turn-uncaught : {vs′ words′ : List ℤ} → StepResult s limit r vs words Uncaught vs′ words′ → RunResult s limit b r₀ vs₀ words₀ (record { stopped = S.Uncaught; steps = n + 1; regs = r }) vs′ words′
     turn-uncaught {vs′} {words′} D =
         record {
           stop = ap (λ (y : Result State). y .stop) (ends uncaught (sym (D .outcome)));
@@ -119,10 +119,10 @@ module _ {s starts handlers params locals : List ℕ} (L : Loaded s starts handl
           extras = ends-sum uncaught (sym (D .outcome)) (D .held);
           held = tt;
           kept = D .kept ∙ T .kept;
-          long = D .long ∙ T .long;
+          sameLength = D .sameLength ∙ T .sameLength;
         }
 
-    pub turn-deep : {vs′ words′ : List ℤ} → Done s limit r vs words Deep vs′ words′ → Finished s limit b r₀ vs₀ words₀ (record { stopped = S.Deep; steps = n; regs = r }) vs′ words′
+    pub turn-deep : {vs′ words′ : List ℤ} → StepResult s limit r vs words Deep vs′ words′ → RunResult s limit b r₀ vs₀ words₀ (record { stopped = S.Deep; steps = n; regs = r }) vs′ words′
     turn-deep {vs′} {words′} D =
         let q : run (step (programOf s) limit) b (stateOf s r₀ vs₀ words₀) ≡ record { stop = deep now; steps = n + 0 } = T .left ∙ ap (λ (y : Result State). after n y) (run-is tooDeep (sym (D .outcome))) in
         let ev : vs′ ≡ vs = D .held .0 in
@@ -131,31 +131,31 @@ module _ {s starts handlers params locals : List ℕ} (L : Loaded s starts handl
           stop = ap (λ (y : Result State). y .stop) q ∙ (ap (λ (us : List ℤ). deep (stateOf s r us words)) (sym ev) ∙ ap (λ (ws : List ℤ). deep (stateOf s r vs′ ws)) (sym ew));
           steps = ap (λ (y : Result State). y .steps) q ∙ add-zero n;
           extras = T .sum ∙ (ap (λ (k : ℕ). r .extras + k) (total-is tooDeep (sym (D .outcome))) ∙ add-zero (r .extras));
-          held = subst (λ (ws : List ℤ). Held s limit r vs′ ws) (sym ew) (subst (λ (us : List ℤ). Held s limit r us words) (sym ev) (T .held));
+          held = subst (λ (ws : List ℤ). Invariant s limit r vs′ ws) (sym ew) (subst (λ (us : List ℤ). Invariant s limit r us words) (sym ev) (T .held));
           kept = D .kept ∙ T .kept;
-          long = D .long ∙ T .long;
+          sameLength = D .sameLength ∙ T .sameLength;
         }
 
   -- The same, by the answer of a step.
-  module _ (l : n < b) {x : Step} {vs′ words′ : List ℤ} (D : Done s limit r vs words x vs′ words′) where
-    by : {y : Step} → x ≡ y → Done s limit r vs words y vs′ words′
-    by e = subst (λ (z : Step). Done s limit r vs words z vs′ words′) e D
+  module _ (l : n < b) {x : Step} {vs′ words′ : List ℤ} (D : StepResult s limit r vs words x vs′ words′) where
+    by : {y : Step} → x ≡ y → StepResult s limit r vs words y vs′ words′
+    by e = subst (λ (z : Step). StepResult s limit r vs words z vs′ words′) e D
 
     pub on-next : {q : Regs} → x ≡ Next q → Turn s limit b r₀ vs₀ words₀ (n + 1) q vs′ words′
     on-next e = turn-next l (by e)
 
-    pub on-value : {z y : ℤ} → x ≡ Value z → y ≡ z → Finished s limit b r₀ vs₀ words₀ (record { stopped = S.Value y; steps = n + 1; regs = r }) vs′ words′
-    on-value {z} {y} e q = subst (λ (w : ℤ). Finished s limit b r₀ vs₀ words₀ (record { stopped = S.Value w; steps = n + 1; regs = r }) vs′ words′) (sym q) (turn-value l (by e))
+    pub on-value : {z y : ℤ} → x ≡ Value z → y ≡ z → RunResult s limit b r₀ vs₀ words₀ (record { stopped = S.Value y; steps = n + 1; regs = r }) vs′ words′
+    on-value {z} {y} e q = subst (λ (w : ℤ). RunResult s limit b r₀ vs₀ words₀ (record { stopped = S.Value w; steps = n + 1; regs = r }) vs′ words′) (sym q) (turn-value l (by e))
 
-    pub on-uncaught : x ≡ Uncaught → Finished s limit b r₀ vs₀ words₀ (record { stopped = S.Uncaught; steps = n + 1; regs = r }) vs′ words′
+    pub on-uncaught : x ≡ Uncaught → RunResult s limit b r₀ vs₀ words₀ (record { stopped = S.Uncaught; steps = n + 1; regs = r }) vs′ words′
     on-uncaught e = turn-uncaught l (by e)
 
-    pub on-deep : x ≡ Deep → Finished s limit b r₀ vs₀ words₀ (record { stopped = S.Deep; steps = n; regs = r }) vs′ words′
+    pub on-deep : x ≡ Deep → RunResult s limit b r₀ vs₀ words₀ (record { stopped = S.Deep; steps = n; regs = r }) vs′ words′
     on-deep e = turn-deep l (by e)
 
-  pub turn-spent : b ≤ n → Finished s limit b r₀ vs₀ words₀ (record { stopped = S.Spent; steps = n; regs = r }) vs words
+  pub turn-spent : b ≤ n → RunResult s limit b r₀ vs₀ words₀ (record { stopped = S.Spent; steps = n; regs = r }) vs words
   turn-spent l =
-      let f : n ≤ b = T .few in
+      let f : n ≤ b = T .stepBound in
       let z : b - n ≡ 0 = omega arith in
       let q : run (step (programOf s) limit) b (stateOf s r₀ vs₀ words₀) ≡ record { stop = spent now; steps = n + 0 } = T .left ∙ ap (λ (k : ℕ). after n (run (step (programOf s) limit) k now)) z in
       record {
@@ -164,12 +164,12 @@ module _ {s starts handlers params locals : List ℕ} (L : Loaded s starts handl
         extras = T .sum ∙ (ap (λ (k : ℕ). r .extras + total (step (programOf s) limit) (extra (programOf s)) k now) z ∙ add-zero (r .extras));
         held = T .held;
         kept = T .kept;
-        long = T .long;
+        sameLength = T .sameLength;
       }
 
 -- The same, with the steps left counted down.
-pub down-few : {b left : ℕ} → left ≤ b → 0 < left → b - left < b
-down-few h k = omega arith
+pub down-stepBound : {b left : ℕ} → left ≤ b → 0 < left → b - left < b
+down-bound h k = omega arith
 
 module _ {s : List ℕ} {limit b : ℕ} {r₀ : Regs} {vs₀ words₀ : List ℤ} {r : Regs} {vs words : List ℤ} where
   pub down-start : Turn s limit b r₀ vs₀ words₀ 0 r vs words → Turn s limit b r₀ vs₀ words₀ (b - b) r vs words
@@ -178,5 +178,5 @@ module _ {s : List ℕ} {limit b : ℕ} {r₀ : Regs} {vs₀ words₀ : List ℤ
   pub down-next : {left : ℕ} → left ≤ b → 0 < left → Turn s limit b r₀ vs₀ words₀ (b - left + 1) r vs words → Turn s limit b r₀ vs₀ words₀ (b - (left - 1)) r vs words
   down-next {left} h k T = let q : b - left + 1 ≡ b - (left - 1) = omega arith in subst (λ (n : ℕ). Turn s limit b r₀ vs₀ words₀ n r vs words) q T
 
-  pub down-spent : {left : ℕ} {starts handlers params locals : List ℕ} → Loaded s starts handlers params locals → left ≤ 0 → Turn s limit b r₀ vs₀ words₀ (b - left) r vs words → Finished s limit b r₀ vs₀ words₀ (record { stopped = S.Spent; steps = b; regs = r }) vs words
+  pub down-spent : {left : ℕ} {starts handlers params locals : List ℕ} → MachineTables s starts handlers params locals → left ≤ 0 → Turn s limit b r₀ vs₀ words₀ (b - left) r vs words → RunResult s limit b r₀ vs₀ words₀ (record { stopped = S.Spent; steps = b; regs = r }) vs words
   down-spent {left} L h T = let q : b - left ≡ b = omega arith in turn-spent L (subst (λ (n : ℕ). Turn s limit b r₀ vs₀ words₀ n r vs words) q T) (omega arith)

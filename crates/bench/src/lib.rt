@@ -1,3 +1,2 @@
-// The bench machine.
+// The bench machine: runs.
 pub mod machine;
-pub mod step;

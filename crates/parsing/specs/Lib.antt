@@ -1,9 +1,10 @@
--- Reading a file of bytes. Definitions: Parser, Fields. Laws: the others.
+-- Reading a file of bytes. Definitions, in reading order: Parser, Fields, Bytes.
 pub mod Parser
 pub mod Fields
+pub mod Bytes
+-- Laws.
 pub mod FieldLaws
 pub mod ParserLaws
-pub mod WroteLaws
+pub mod BytesAtLaws
 pub mod ReadsLaws
-pub mod Bytes
 pub mod BytesLaws

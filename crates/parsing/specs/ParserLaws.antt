@@ -36,15 +36,15 @@ module _ {A B : Type 0} (x : Parsed A) (k : A → ℕ → Parsed B) where
   stop e = rw (past-refuse x e)
 
 -- What follows was read, so the part was.
-pub record Both {A B : Type 0} (x : Parsed A) (k : A → ℕ → Parsed B) (b : B) (next : ℕ) : Type 0 where
+pub record Sequence {A B : Type 0} (x : Parsed A) (k : A → ℕ → Parsed B) (b : B) (next : ℕ) : Type 0 where
   pub first : A
   pub middle : ℕ
   pub reads : x ≡ read first middle
   pub follows : k first middle ≡ read b next
 
-pub both : {A B : Type 0} (x : Parsed A) (k : A → ℕ → Parsed B) {b : B} {next : ℕ} → andThen x k ≡ read b next → Both x k b next
-both (read a m) k e = record { first = a; middle = m; reads = refl; follows = e }
-both (refuse r) k e = impossible (cc)
+pub sequence : {A B : Type 0} (x : Parsed A) (k : A → ℕ → Parsed B) {b : B} {next : ℕ} → andThen x k ≡ read b next → Sequence x k b next
+sequence (read a m) k e = record { first = a; middle = m; reads = refl; follows = e }
+sequence (refuse r) k e = impossible (cc)
 
 -- One of several parts, and the others.
 module _ {A : Type 0} (p : Parser A) (s : List ℕ) (n at : ℕ) where
@@ -71,8 +71,8 @@ read-many {A} p s zero at {as′} {next} e = go (cc) (cc)
     go : {as″ : List A} {m : ℕ} → [] ≡ as″ → at ≡ m → ReadMany p s at as″ m × (length as″ ≡ 0)
     go a b = rw (← a, ← b) (none, refl)
 read-many {A} p s (suc n) at {as′} {next} e =
-    let h = both (p s at) (λ a m. andThen (many n p s m) (λ as″ m′. read (a ∷ as″) m′)) e in
-    let t = both (many n p s (h .middle)) (λ as″ m′. read (h .first ∷ as″) m′) (h .follows) in
+    let h = sequence (p s at) (λ a m. andThen (many n p s m) (λ as″ m′. read (a ∷ as″) m′)) e in
+    let t = sequence (many n p s (h .middle)) (λ as″ m′. read (h .first ∷ as″) m′) (h .follows) in
     let r = read-many p s n (h .middle) (t .reads) in
     go (t .follows) (h .reads) (r .0) (r .1)
   where
@@ -109,7 +109,7 @@ module _ (low high : ℕ) (s : List ℕ) (at : ℕ) where
   pub read-count : {n next : ℕ} → count low high s at ≡ read n next → ReadCount n next
   unfolding count
   read-count {n} {next} e =
-      let h = both (byte s at) (λ k m. cond (leb low k) (cond (leb k high) (read k m) (refuse (refusal 5 at))) (refuse (refusal 5 at))) e in
+      let h = sequence (byte s at) (λ k m. cond (leb low k) (cond (leb k high) (read k m) (refuse (refusal 5 at))) (refuse (refusal 5 at))) e in
       go (h .first) (h .middle) (read-byte s at (h .reads)) (leb low (h .first)) (leb (h .first) high) refl refl (h .follows)
     where
       go : (k m : ℕ) → ReadByte s at k m → (t u : Bool) → leb low k ≡ t → leb k high ≡ u → cond t (cond u (read k m) (refuse (refusal 5 at))) (refuse (refusal 5 at)) ≡ read n next → ReadCount n next

@@ -29,4 +29,4 @@ pub record Acceptance : Type 0 where
   -- Its file is a list of bytes.
   pub isBytes : (P : Program) → HasFile P → Bytes (writing P)
   -- No two programs share a file.
-  pub isOne : (P Q : Program) → HasFile P → HasFile Q → writing P ≡ writing Q → P ≡ Q
+  pub isUnique : (P Q : Program) → HasFile P → HasFile Q → writing P ≡ writing Q → P ≡ Q

@@ -19,19 +19,18 @@ use Rattle.procedure_file.specs.WrittenLaws.{ReadProgram, read-program, 
 use Rattle.procedure_file.specs.ReadsBackLaws.{reads-program}
 use Rattle.procedure_file.specs.BytesLaws.{writing-bytes}
 use Rattle.procedure_names.specs.NamesLaws.{names-right, names-formed}
+use Rattle.procedure_file.specs.Asked.{Laid}
 
--- A file whose layout is whole, of the length that is allowed, as a list of bytes.
-pub record Laid (s : List ℕ) : Type 0 where
-  pub bytes : Bytes s
-  pub short : length s ≤ 32768
-  pub reads : ReadProgram s (programOf s)
+-- What is read of it.
+pub laid-reads : {s : List ℕ} → Laid s → ReadProgram s (programOf s)
+laid-reads {s} L = read-program s (L .bytes) (programOf s) (L .past) (L .layout)
 
 module _ (s : List ℕ) (bytes : Bytes s) where
   pub laid-by : (P : Program) (next : ℕ) → program s 0 ≡ read P next → length s ≤ 32768 → Laid s × (programOf s ≡ P)
   unfolding programOf
   laid-by P next e l =
       let p : programOf s ≡ P = ap programRead e in
-      (record { bytes = bytes; short = l; reads = rw p (read-program s bytes P next e) }, p)
+      (record { bytes = bytes; fileBound = l; past = next; layout = e ∙ ap (λ (Q : Program). read Q next) (sym p) }, p)
 
 -- What the checker answers, by its parts.
 module _ (s : List ℕ) where
@@ -44,7 +43,7 @@ module _ (s : List ℕ) where
   check-layout h = rw (le-leb (length s) 32768 h)
 
   pub record Passed : Type 0 where
-    pub short : length s ≤ 32768
+    pub fileBound : length s ≤ 32768
     pub what : Program
     pub next : ℕ
     pub reads : program s 0 ≡ read what next
@@ -55,20 +54,20 @@ module _ (s : List ℕ) where
   passed e = go (leb (length s) 32768) (program s 0) refl refl e
     where
       go : (t : Bool) (x : Parsed Program) → leb (length s) 32768 ≡ t → program s 0 ≡ x → cond t (named x) (refused 15 32768) ≡ accepted → Passed
-      go true (read P next) l r w = record { short = leb-true (length s) 32768 l; what = P; next = next; reads = r; right = w }
+      go true (read P next) l r w = record { fileBound = leb-true (length s) 32768 l; what = P; next = next; reads = r; right = w }
       go true (refuse q) l r w = impossible (cc)
       go false x l r w = impossible (cc)
 
 pub is-writing : (s : List ℕ) → Bytes s → checkOf s ≡ accepted → HasFile (programOf s) × (s ≡ writing (programOf s))
 is-writing s bytes e =
     let a = passed s e in
-    let l = laid-by s bytes (a .what) (a .next) (a .reads) (a .short) in
-    let w = written s bytes (programOf s) (l .0 .reads) in
+    let l = laid-by s bytes (a .what) (a .next) (a .reads) (a .fileBound) in
+    let w = written s bytes (programOf s) (laid-reads (l .0)) in
     let f : firstWrong (namesOf (programOf s)) ≡ accepted = ap (λ (P : Program). firstWrong (namesOf P)) (l .1) ∙ a .right in (
       record {
-        inRange = in-range s bytes (programOf s) (l .0 .reads);
+        inRange = in-range s bytes (programOf s) (laid-reads (l .0));
         wellFormed = names-formed (programOf s) f;
-        fits = rw (← w) (a .short);
+        fits = rw (← w) (a .fileBound);
       },
       w,
     )
@@ -89,5 +88,5 @@ acceptance =
       isWriting = is-writing;
       isAccepted = is-accepted;
       isBytes = writing-bytes;
-      isOne = λ P Q p q e. sym (is-accepted P p .1) ∙ ap programOf e ∙ is-accepted Q q .1;
+      isUnique = λ P Q p q e. sym (is-accepted P p .1) ∙ ap programOf e ∙ is-accepted Q q .1;
     }

@@ -49,10 +49,10 @@ value-row i f =
     more (n % 256) (omega arith) (more (n / 256 % 256) (omega arith) (more (n / 256 / 256 % 256) (omega arith) (more (n / 256 / 256 / 256) (omega arith) none)))
 
 module _ (P : Program) (r : InRange P) where
-  few-params : (g : ℕ) → g < length P → functionOf P g .params ≤ 8
-  few-params g h = all-at FunctionInRange P (r .functions) g noFunction h .params
+  params-bound : (g : ℕ) → g < length P → functionOf P g .params ≤ 8
+  params-bound g h = all-at FunctionInRange P (r .functions) g noFunction h .params
 
-  module _ (v n : ℕ) (few : v ≤ 32) (labels : n ≤ 63) where
+  module _ (v n : ℕ) (counterBound : v ≤ 32) (labels : n ≤ 63) where
     block-row : (b : Block) → WellFormedBlock P v n b → ValuesFit b → Row (blockBytes b)
     block-row (constant x i b) w f =
         more 1 (omega arith) (more x (omega (arith, w .0)) (append (value-row i (f .0)) (block-row b (w .1) (f .1))))
@@ -65,7 +65,7 @@ module _ (P : Program) (r : InRange P) where
         more 4 (omega arith)
         (more x (omega (arith, w .0))
         (more g (omega (arith, w .1, r .most))
-        (more (length ys) (omega (arith, w .2, few-params g (w .1)))
+        (more (length ys) (omega (arith, w .2, params-bound g (w .1)))
         (append (row-below v ys (omega arith) (w .3)) (block-row b (w .4) f)))))
     block-row (goto l) w f = more 5 (omega arith) (more l (omega (arith, w .1)) none)
     block-row (return x) w f = more 6 (omega arith) (more x (omega (arith, w)) none)
@@ -81,13 +81,13 @@ module _ (P : Program) (r : InRange P) where
   function-row F w f =
       let v = variables F in
       let n = length (F .blocks) in
-      let few : v ≤ 32 = omega (arith, f .params, f .locals) in
+      let counterBound : v ≤ 32 = omega (arith, f .params, f .locals) in
       more (F .params) (omega (arith, f .params))
       (more (F .locals) (omega (arith, f .locals))
       (more n (omega (arith, f .blocks))
-      (append (block-row v n few (f .blocks) (F .entry) (w .entry) (f .entryValues))
+      (append (block-row v n counterBound (f .blocks) (F .entry) (w .entry) (f .entryValues))
       (row-joined labelledBytes (F .blocks)
-      (all-map (WellFormedLabelled P v n) (λ B. ValuesFit (B .block)) (λ B. Row (labelledBytes B)) (F .blocks) (labelled-row v n few (f .blocks)) (w .blocks) (f .blockValues))))))
+      (all-map (WellFormedLabelled P v n) (λ B. ValuesFit (B .block)) (λ B. Row (labelledBytes B)) (F .blocks) (labelled-row v n counterBound (f .blocks)) (w .blocks) (f .blockValues))))))
 
 written-row : (P : Program) → HasFile P → Row (writing P)
 unfolding writing

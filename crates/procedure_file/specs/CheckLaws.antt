@@ -12,18 +12,19 @@ use Rattle.procedure_layout.specs.Layout.{program}
 use Rattle.procedure_names.specs.Names.{namesOf, firstWrong}
 use Rattle.procedure_file.specs.Check.{named, checkOf, programOf}
 use Rattle.parsing.specs.Bytes.{Bytes}
-use Rattle.procedure_file.specs.AcceptedLaws.{Laid, laid-by, check-layout}
+use Rattle.procedure_file.specs.AcceptedLaws.{laid-by, check-layout}
+use Rattle.procedure_file.specs.Asked.{Laid}
 
-module _ (s : List ℕ) (short : length s ≤ 32768) where
+module _ (s : List ℕ) (fileBound : length s ≤ 32768) where
   pub check-stopped : (r : Refusal) → pastOf (program s 0) ≡ Stopped r → refused (r .number) (r .place) ≡ checkOf s
-  check-stopped r e = sym (check-layout s short ∙ ap named (past-refuse (program s 0) e))
+  check-stopped r e = sym (check-layout s fileBound ∙ ap named (past-refuse (program s 0) e))
 
   module _ (bytes : Bytes s) (next : ℕ) (whole : pastOf (program s 0) ≡ Past next) where
     pub check-laid : Laid s
-    check-laid = let r = past-read (program s 0) whole in laid-by s bytes (r .what) next (r .is) short .0
+    check-laid = let r = past-read (program s 0) whole in laid-by s bytes (r .what) next (r .is) fileBound .0
 
     pub check-named : firstWrong (namesOf (programOf s)) ≡ checkOf s
     check-named =
         let r = past-read (program s 0) whole in
-        let p = laid-by s bytes (r .what) next (r .is) short .1 in
-        ap (λ (P : Program). firstWrong (namesOf P)) p ∙ sym (check-layout s short ∙ ap named (r .is))
+        let p = laid-by s bytes (r .what) next (r .is) fileBound .1 in
+        ap (λ (P : Program). firstWrong (namesOf P)) p ∙ sym (check-layout s fileBound ∙ ap named (r .is))

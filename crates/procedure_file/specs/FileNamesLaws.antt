@@ -16,28 +16,11 @@ use Rattle.procedure_file.specs.Check.{programOf}
 use Rattle.procedure_layout.specs.Rest.{restAt}
 use Rattle.procedure_file.specs.Places.{functionPlace, labelPlace, startOf, noLabelled, blockOf, handlerOf}
 use Rattle.procedure_file.specs.Tables.{CountEntry, BlockEntries, Tables}
-use Rattle.procedure_file.specs.AcceptedLaws.{Laid}
+use Rattle.procedure_file.specs.AcceptedLaws.{laid-reads}
 use Rattle.procedure_names.specs.NamesLaws.{first-append, arity-of}
 use Rattle.procedure_file.specs.PlacesLaws.{rest-is, start-at, label-next, function-next}
-use Rattle.procedure_file.specs.FillLaws.{few-blocks, few-params, few-locals, few-functions, Given}
-
--- A labelled block as the function judges it.
-abbrev pub labelledVerdict : List ℕ → List ℕ → ℕ → ℕ → ℕ → ℕ → Verdict
-labelledVerdict ps s v n h start = firstWrong (handler n (start - 1) h ∷ blockNames ps v n start (restAt s start))
-
--- What judging function f asks.
-pub record Naming (s : List ℕ) (f labels v : ℕ) (starts handlers : List ℕ) : Type 0 where
-  pub laid : Laid s
-  pub there : f < length (programOf s)
-  pub labelsAre : labels ≡ length (functionOf (programOf s) f .blocks)
-  pub variablesAre : v ≡ variables (functionOf (programOf s) f)
-  pub entries : BlockEntries (programOf s) (length (programOf s)) starts handlers
-  pub startsLong : length starts ≡ 2048
-  pub handlersLong : length handlers ≡ 2048
-
--- The verdict on function f.
-abbrev pub functionVerdict : List ℕ → List ℕ → ℕ → Verdict
-functionVerdict ps s f = firstWrong (functionNames ps (functionPlace (programOf s) f) (functionOf (programOf s) f))
+use Rattle.procedure_file.specs.FillLaws.{blocks-bound, params-bound, locals-bound, functions-bound}
+use Rattle.procedure_file.specs.Asked.{Laid, Given, labelledVerdict, Naming, functionVerdict, NamingAll}
 
 -- The verdict on its labelled blocks from l + 1 on.
 abbrev pub labelsVerdict : List ℕ → List ℕ → ℕ → ℕ → ℕ → ℕ → Verdict
@@ -53,15 +36,15 @@ module _ (ps s : List ℕ) (f labels v : ℕ) (starts handlers : List ℕ) (w : 
 
   pub naming-room : (64 * f + 63 < 2048) × (labels ≤ 63)
   naming-room = (
-    omega (arith, few-functions s (w .laid) f (w .there)),
-    omega (arith, few-blocks s (w .laid) f (w .there), w .labelsAre),
+    omega (arith, functions-bound s (w .laid) f (w .there)),
+    omega (arith, blocks-bound s (w .laid) f (w .there), w .labelsAre),
   )
 
   abbrev left : ℕ → Verdict
   left l = labelsVerdict ps s f labels v l
 
   rest-at : (l : ℕ) → l ≤ labels → restAt s (startOf P f l) ≡ blockOf F l
-  rest-at l h = rest-is s (start-at s (w .laid .bytes) P (w .laid .reads) f (w .there) l (omega (arith, w .labelsAre)))
+  rest-at l h = rest-is s (start-at s (w .laid .bytes) P (laid-reads (w .laid)) f (w .there) l (omega (arith, w .labelsAre)))
 
   start-of : (l : ℕ) → l ≤ labels → getD starts (64 * f + l) 0 ≡ startOf P f l
   start-of l h = w .entries f l (w .there) (omega (arith, w .labelsAre)) .start
@@ -108,7 +91,7 @@ module _ (ps s : List ℕ) (f labels v : ℕ) (starts handlers : List ℕ) (w : 
     split : left l ≡ orElse (labelledVerdict ps s v labels (handlerOf F (suc l)) (startOf P f (suc l))) (left (suc l))
     split =
         let B = getD (F .blocks) l noLabelled in
-        let n = label-next s (w .laid .bytes) P (w .laid .reads) f (w .there) l (omega (arith, w .labelsAre)) in
+        let n = label-next s (w .laid .bytes) P (laid-reads (w .laid)) f (w .there) l (omega (arith, w .labelsAre)) in
         let m : labelPlace P f l + 1 - 1 ≡ labelPlace P f l = omega arith in
         rw (drop-cons (F .blocks) l noLabelled (omega (arith, w .labelsAre)), rest-at (suc l) less, m, n)
         (first-append (handler labels (labelPlace P f l) (B .handler) ∷ blockNames ps v labels (labelPlace P f l + 1) (B .block)) (labelledNames ps v labels (labelPlace P f (suc l)) (drop (suc l) (F .blocks))))
@@ -136,16 +119,6 @@ module _ (ps s : List ℕ) (f labels v : ℕ) (starts handlers : List ℕ) (w : 
 
   pub labels-done : (l : ℕ) → labels ≤ l → accepted ≡ left l
   labels-done l h = rw (drop-of-length-le (F .blocks) {i = l} (omega (arith, w .labelsAre)))
-
--- What judging the whole file asks: its tables, and the numbers of parameters as they are.
-pub record NamingAll (s starts handlers params locals blocks : List ℕ) : Type 0 where
-  pub laid : Laid s
-  pub tables : Tables (programOf s) starts handlers params locals blocks
-  pub startsLong : length starts ≡ 2048
-  pub handlersLong : length handlers ≡ 2048
-  pub paramsLong : length params ≡ length (programOf s)
-  pub localsLong : length locals ≡ 32
-  pub blocksLong : length blocks ≡ 32
 
 -- The verdict on the functions from f on.
 abbrev pub functionsVerdict : List ℕ → List ℕ → ℕ → Verdict
@@ -182,12 +155,12 @@ module _ (s starts handlers params locals blocks : List ℕ) (w : NamingAll s st
     pub one-room : (f < 32) × (getD params f 0 ≤ 8) × (getD locals f 0 ≤ 24)
     one-room =
         let c = w .tables .countEntries f there in
-        (few-functions s (w .laid) f there, rw (c .paramsAre) (few-params s (w .laid) f there), rw (c .localsAre) (few-locals s (w .laid) f there))
+        (functions-bound s (w .laid) f there, rw (c .paramsAre) (params-bound s (w .laid) f there), rw (c .localsAre) (locals-bound s (w .laid) f there))
 
     split-functions : functionsVerdict params s f ≡ orElse (functionVerdict params s f) (functionsVerdict params s (f + 1))
     split-functions =
         let P = programOf s in
-        let n = function-next s (w .laid .bytes) P (w .laid .reads) f there in
+        let n = function-next s (w .laid .bytes) P (laid-reads (w .laid)) f there in
         let i : f + 1 ≡ suc f = omega arith in
         rw (drop-cons P f noFunction there, i, n)
         (first-append (functionNames params (functionPlace P f) (functionOf P f)) (functionsNames params (functionPlace P (suc f)) (drop (suc f) P)))
@@ -214,7 +187,7 @@ naming-given s count starts handlers params locals blocks L g a b p l k =
       tables = record { blockEntries = g .tables .blockEntries; countEntries = entry };
       startsLong = a;
       handlersLong = b;
-      paramsLong = length-take-le count params (omega (arith, g .countIs, L .reads .most)) ∙ g .countIs;
+      paramsLong = length-take-le count params (omega (arith, g .countIs, laid-reads L .most)) ∙ g .countIs;
       localsLong = l;
       blocksLong = k;
     }

@@ -13,20 +13,21 @@ use Rattle.procedure_layout.specs.Layout.{block}
 use Rattle.procedure_layout.specs.After.{endOf}
 use Rattle.procedure_file.specs.Check.{programOf}
 use Rattle.procedure_file.specs.Places.{functionPlace, labelPlace, startOf, handlerOf}
-use Rattle.procedure_file.specs.Tables.{slot, BlockEntry, CountEntry, BlockEntries, CountEntries, Tables}
-use Rattle.procedure_file.specs.AcceptedLaws.{Laid}
+use Rattle.procedure_file.specs.Tables.{index, BlockEntry, CountEntry, BlockEntries, CountEntries, Tables}
+use Rattle.procedure_file.specs.Asked.{Laid, Filling, Filled, Lent, Given}
+use Rattle.procedure_file.specs.AcceptedLaws.{laid-reads}
 use Rattle.procedure_file.specs.PlacesLaws.{block-is, block-inside, function-at, label-at, function-ends, handler-at, start-at}
 
 -- Entries after a store.
 module _ (P : Program) (starts handlers : List ℕ) (i x y : ℕ) where
-  pub entry-kept : (f l : ℕ) → slot f l ≢ i → BlockEntry P f l starts handlers → BlockEntry P f l (set starts i x) (set handlers i y)
+  pub entry-kept : (f l : ℕ) → index f l ≢ i → BlockEntry P f l starts handlers → BlockEntry P f l (set starts i x) (set handlers i y)
   entry-kept f l n e =
       record {
-        start = getD-set-other starts i (slot f l) x 0 n ∙ e .start;
-        handler = getD-set-other handlers i (slot f l) y 0 n ∙ e .handler;
+        start = getD-set-other starts i (index f l) x 0 n ∙ e .start;
+        handler = getD-set-other handlers i (index f l) y 0 n ∙ e .handler;
       }
 
-  pub entry-new : (f l : ℕ) → i ≡ slot f l → i < length starts → i < length handlers → x ≡ startOf P f l → y ≡ handlerOf (functionOf P f) l
+  pub entry-new : (f l : ℕ) → i ≡ index f l → i < length starts → i < length handlers → x ≡ startOf P f l → y ≡ handlerOf (functionOf P f) l
       → BlockEntry P f l (set starts i x) (set handlers i y)
   entry-new f l e a b p q =
       record {
@@ -34,26 +35,12 @@ module _ (P : Program) (starts handlers : List ℕ) (i x y : ℕ) where
         handler = ap (λ (k : ℕ). getD (set handlers i y) k 0) (sym e) ∙ getD-set-same handlers i y 0 b ∙ q;
       }
 
--- What filling the row of function f asks.
-pub record Filling (s : List ℕ) (f at : ℕ) (starts handlers : List ℕ) : Type 0 where
-  pub laid : Laid s
-  pub there : f < length (programOf s)
-  pub place : at ≡ functionPlace (programOf s) f
-  pub entries : BlockEntries (programOf s) f starts handlers
-  pub startsLong : length starts ≡ 2048
-  pub handlersLong : length handlers ≡ 2048
-
--- What it gives.
-pub record Filled (s : List ℕ) (f at : ℕ) (starts handlers : List ℕ) : Type 0 where
-  pub place : at ≡ functionPlace (programOf s) f
-  pub entries : BlockEntries (programOf s) f starts handlers
-
 -- The row is filled up to label l.
 pub record Row (s : List ℕ) (f labels : ℕ) (starts handlers : List ℕ) (l place : ℕ) : Type 0 where
   pub laid : Laid s
   pub there : f < length (programOf s)
   pub labelsAre : labels ≡ length (functionOf (programOf s) f .blocks)
-  pub few : l ≤ labels
+  pub counterBound : l ≤ labels
   pub placeIs : place ≡ labelPlace (programOf s) f l
   pub entries : BlockEntries (programOf s) f starts handlers
   pub row : (k : ℕ) → k ≤ l → BlockEntry (programOf s) f k starts handlers
@@ -69,39 +56,39 @@ module _ (s : List ℕ) (L : Laid s) (f : ℕ) (there : f < length (programOf s)
   F = functionOf P f
 
   pub heading-inside : functionPlace P f + 3 ≤ length s
-  heading-inside = function-at s (L .bytes) P (L .reads) f there .here .inside
+  heading-inside = function-at s (L .bytes) P (laid-reads L) f there .here .inside
 
   pub params-byte : getD s (functionPlace P f) 0 ≡ F .params
-  params-byte = sym (function-at s (L .bytes) P (L .reads) f there .here .paramsAre)
+  params-byte = sym (function-at s (L .bytes) P (laid-reads L) f there .here .paramsAre)
 
   pub locals-byte : getD s (functionPlace P f + 1) 0 ≡ F .locals
-  locals-byte = sym (function-at s (L .bytes) P (L .reads) f there .here .localsAre)
+  locals-byte = sym (function-at s (L .bytes) P (laid-reads L) f there .here .localsAre)
 
   pub blocks-byte : getD s (functionPlace P f + 2) 0 ≡ length (F .blocks)
-  blocks-byte = sym (function-at s (L .bytes) P (L .reads) f there .here .blocksAre)
+  blocks-byte = sym (function-at s (L .bytes) P (laid-reads L) f there .here .blocksAre)
 
-  pub few-blocks : length (F .blocks) ≤ 63
-  few-blocks = function-at s (L .bytes) P (L .reads) f there .here .fewBlocks
+  pub blocks-bound : length (F .blocks) ≤ 63
+  blocks-bound = function-at s (L .bytes) P (laid-reads L) f there .here .blocksBound
 
-  pub few-params : F .params ≤ 8
-  few-params = function-at s (L .bytes) P (L .reads) f there .here .fewParams
+  pub params-bound : F .params ≤ 8
+  params-bound = function-at s (L .bytes) P (laid-reads L) f there .here .paramsBound
 
-  pub few-locals : F .locals ≤ 24
-  few-locals = function-at s (L .bytes) P (L .reads) f there .here .fewLocals
+  pub locals-bound : F .locals ≤ 24
+  locals-bound = function-at s (L .bytes) P (laid-reads L) f there .here .localsBound
 
-  pub few-functions : f < 32
-  few-functions = omega (arith, L .reads .most)
+  pub functions-bound : f < 32
+  functions-bound = omega (arith, laid-reads L .most)
 
   -- A block ends where the next begins.
   pub end-is : (l : ℕ) → l ≤ length (F .blocks) → endOf (block s (startOf P f l)) ≡ labelPlace P f l
-  end-is l h = ap endOf (block-is s (start-at s (L .bytes) P (L .reads) f there l h))
+  end-is l h = ap endOf (block-is s (start-at s (L .bytes) P (laid-reads L) f there l h))
 
   pub start-inside : (l : ℕ) → l ≤ length (F .blocks) → startOf P f l < length s
   start-inside l h =
-      let i = block-inside s (start-at s (L .bytes) P (L .reads) f there l h) in omega (arith, i .0, i .1)
+      let i = block-inside s (start-at s (L .bytes) P (laid-reads L) f there l h) in omega (arith, i .0, i .1)
 
   pub place-inside : (l : ℕ) → l < length (F .blocks) → labelPlace P f l < length s
-  place-inside l h = label-at s (L .bytes) P (L .reads) f there l h .inside
+  place-inside l h = label-at s (L .bytes) P (laid-reads L) f there l h .inside
 
 -- The row's first entry.
 pub row-begins : (s : List ℕ) (f at : ℕ) (starts handlers : List ℕ) → Filling s f at starts handlers → (i x labels place : ℕ) → i ≡ 64 * f → x ≡ at + 3
@@ -109,15 +96,15 @@ pub row-begins : (s : List ℕ) (f at : ℕ) (starts handlers : List ℕ) → Fi
 row-begins s f at starts handlers w i x labels place ei ex el ep =
     let P = programOf s in
     let q : at ≡ functionPlace P f = w .place in
-    let fits : i < 2048 = omega (arith, ei, few-functions s (w .laid) f (w .there)) in
+    let fits : i < 2048 = omega (arith, ei, functions-bound s (w .laid) f (w .there)) in
     record {
       laid = w .laid;
       there = w .there;
       labelsAre = el ∙ ap (λ (k : ℕ). getD s (k + 2) 0) q ∙ blocks-byte s (w .laid) f (w .there);
-      few = omega arith;
+      counterBound = omega arith;
       placeIs = ep ∙ ap (λ (k : ℕ). endOf (block s k)) (ex ∙ ap (λ (k : ℕ). k + 3) q) ∙ end-is s (w .laid) f (w .there) 0 (omega arith);
       entries = λ g l a b. entry-kept P starts handlers i x 0 g l
-          (λ e. absurd (omega (arith, ei, a, b, few-blocks s (w .laid) g (lt-trans a (w .there))))) (w .entries g l a b);
+          (λ e. absurd (omega (arith, ei, a, b, blocks-bound s (w .laid) g (lt-trans a (w .there))))) (w .entries g l a b);
       row = λ k h. first k h;
       startsLong = length-set starts i x ∙ w .startsLong;
       handlersLong = length-set handlers i 0 ∙ w .handlersLong;
@@ -126,8 +113,8 @@ row-begins s f at starts handlers w i x labels place ei ex el ep =
     first : (k : ℕ) → k ≤ 0 → BlockEntry (programOf s) f k (set starts i x) (set handlers i 0)
     first zero h =
         entry-new (programOf s) starts handlers i x 0 f 0 (omega arith)
-        (omega (arith, ei, few-functions s (w .laid) f (w .there), w .startsLong))
-        (omega (arith, ei, few-functions s (w .laid) f (w .there), w .handlersLong)) (ex ∙ ap (λ (k : ℕ). k + 3) (w .place)) refl
+        (omega (arith, ei, functions-bound s (w .laid) f (w .there), w .startsLong))
+        (omega (arith, ei, functions-bound s (w .laid) f (w .there), w .handlersLong)) (ex ∙ ap (λ (k : ℕ). k + 3) (w .place)) refl
     first (suc k) h = absurd (omega arith)
 
 -- One entry more.
@@ -141,11 +128,11 @@ row-more s f labels starts handlers l place w less i x y m next em ei ex ey en =
       laid = w .laid;
       there = w .there;
       labelsAre = w .labelsAre;
-      few = omega arith;
+      counterBound = omega arith;
       placeIs = en ∙ ap (λ (k : ℕ). endOf (block s k)) (ex ∙ ap (λ (k : ℕ). k + 1) (w .placeIs))
           ∙ end-is s (w .laid) f (w .there) (suc l) (omega arith) ∙ ap (labelPlace P f) (omega arith);
       entries = λ g k a b. entry-kept P starts handlers i x y g k
-          (λ e. absurd (omega (arith, ei, a, b, few-blocks s (w .laid) g (lt-trans a (w .there))))) (w .entries g k a b);
+          (λ e. absurd (omega (arith, ei, a, b, blocks-bound s (w .laid) g (lt-trans a (w .there))))) (w .entries g k a b);
       row = λ k h. by k h (decLe k l);
       startsLong = length-set starts i x ∙ w .startsLong;
       handlersLong = length-set handlers i y ∙ w .handlersLong;
@@ -157,20 +144,20 @@ row-more s f labels starts handlers l place w less i x y m next em ei ex ey en =
         let q : k ≡ suc l = omega arith in
         rw q
         (entry-new (programOf s) starts handlers i x y f (suc l) (omega arith)
-        (omega (arith, few-functions s (w .laid) f (w .there), few-blocks s (w .laid) f (w .there), w .labelsAre, w .startsLong))
-        (omega (arith, few-functions s (w .laid) f (w .there), few-blocks s (w .laid) f (w .there), w .labelsAre, w .handlersLong))
+        (omega (arith, functions-bound s (w .laid) f (w .there), blocks-bound s (w .laid) f (w .there), w .labelsAre, w .startsLong))
+        (omega (arith, functions-bound s (w .laid) f (w .there), blocks-bound s (w .laid) f (w .there), w .labelsAre, w .handlersLong))
         (ex ∙ ap (λ (j : ℕ). j + 1) (w .placeIs))
-        (ey ∙ ap (λ (j : ℕ). getD s j 0) (w .placeIs) ∙ handler-at s (w .laid .bytes) (programOf s) (w .laid .reads) f (w .there) l (omega (arith, w .labelsAre))))
+        (ey ∙ ap (λ (j : ℕ). getD s j 0) (w .placeIs) ∙ handler-at s (w .laid .bytes) (programOf s) (laid-reads (w .laid)) f (w .there) l (omega (arith, w .labelsAre))))
 
 -- The row is full.
 pub row-full : (s : List ℕ) (f labels : ℕ) (starts handlers : List ℕ) (l place : ℕ) → Row s f labels starts handlers l place → labels ≤ l
     → Filled s (f + 1) place starts handlers
 row-full s f labels starts handlers l place w h =
     let P = programOf s in
-    let n : l ≡ length (functionOf P f .blocks) = omega (arith, w .labelsAre, w .few) in
+    let n : l ≡ length (functionOf P f .blocks) = omega (arith, w .labelsAre, w .counterBound) in
     let q : f + 1 ≡ suc f = omega arith in
     record {
-      place = w .placeIs ∙ ap (labelPlace P f) n ∙ function-ends s (w .laid .bytes) P (w .laid .reads) f (w .there) ∙ ap (functionPlace P) (sym q);
+      place = w .placeIs ∙ ap (labelPlace P f) n ∙ function-ends s (w .laid .bytes) P (laid-reads (w .laid)) f (w .there) ∙ ap (functionPlace P) (sym q);
       entries = λ g k a b. by g k b (decLt g f) a;
     }
   where
@@ -196,22 +183,22 @@ row-turns s f labels starts handlers l place w h starts′ handlers′ next a b 
 -- What the numbers are below.
 pub filling-room : (s : List ℕ) (f at : ℕ) (starts handlers : List ℕ) → Filling s f at starts handlers → (f < 32) × (at + 3 ≤ length s) × (length s ≤ 32768)
 filling-room s f at starts handlers w =
-    (few-functions s (w .laid) f (w .there), rw (w .place) (heading-inside s (w .laid) f (w .there)), w .laid .short)
+    (functions-bound s (w .laid) f (w .there), rw (w .place) (heading-inside s (w .laid) f (w .there)), w .laid .fileBound)
 
 pub row-room : (s : List ℕ) (f labels : ℕ) (starts handlers : List ℕ) (l place : ℕ) → Row s f labels starts handlers l place
     → l < labels → (64 * f + (l + 1) < 2048) × (place < length s) × (length s ≤ 32768)
 row-room s f labels starts handlers l place w h = (
-  omega (arith, few-functions s (w .laid) f (w .there), few-blocks s (w .laid) f (w .there), w .labelsAre),
+  omega (arith, functions-bound s (w .laid) f (w .there), blocks-bound s (w .laid) f (w .there), w .labelsAre),
   rw (w .placeIs) (place-inside s (w .laid) f (w .there) l (omega (arith, w .labelsAre))),
-  w .laid .short,
+  w .laid .fileBound,
 )
 
 -- The function count stands behind mark and version.
 pub count-byte : (s : List ℕ) (L : Laid s) → getD s 5 0 ≡ length (programOf s)
-count-byte s L = ap (λ (l : List ℕ). getD l 5 0) (L .reads .head .stands)
+count-byte s L = ap (λ (l : List ℕ). getD l 5 0) (laid-reads L .head .stands)
 
 pub count-inside : (s : List ℕ) (L : Laid s) → 5 < length s
-count-inside s L = let l = ap length (L .reads .head .stands) in omega (arith, l, length-append (83 ∷ 80 ∷ 70 ∷ 1 ∷ 0 ∷ length (programOf s) ∷ []) (drop 6 s))
+count-inside s L = let l = ap length (laid-reads L .head .stands) in omega (arith, l, length-append (83 ∷ 80 ∷ 70 ∷ 1 ∷ 0 ∷ length (programOf s) ∷ []) (drop 6 s))
 
 -- Counts after a store.
 module _ (P : Program) (params locals blocks : List ℕ) (i p l b : ℕ) where
@@ -223,28 +210,14 @@ module _ (P : Program) (params locals blocks : List ℕ) (i p l b : ℕ) where
         blocksAre = getD-set-other blocks i f b 0 n ∙ e .blocksAre;
       }
 
--- What filling the tables asks.
-pub record Lent (s starts handlers params locals blocks : List ℕ) : Type 0 where
-  pub laid : Laid s
-  pub startsLong : length starts ≡ 2048
-  pub handlersLong : length handlers ≡ 2048
-  pub paramsLong : length params ≡ 32
-  pub localsLong : length locals ≡ 32
-  pub blocksLong : length blocks ≡ 32
-
 -- The tables are filled for the functions before f.
 pub record Part (s : List ℕ) (count : ℕ) (starts handlers params locals blocks : List ℕ) (at f : ℕ) : Type 0 where
   pub lent : Lent s starts handlers params locals blocks
   pub countIs : count ≡ length (programOf s)
-  pub few : f ≤ count
+  pub counterBound : f ≤ count
   pub place : at ≡ functionPlace (programOf s) f
   pub entries : BlockEntries (programOf s) f starts handlers
   pub counts : CountEntries (programOf s) f params locals blocks
-
--- What filling them gives.
-pub record Given (s : List ℕ) (count : ℕ) (starts handlers params locals blocks : List ℕ) : Type 0 where
-  pub countIs : count ≡ length (programOf s)
-  pub tables : Tables (programOf s) starts handlers params locals blocks
 
 pub part-begins : (s starts handlers params locals blocks : List ℕ) → Lent s starts handlers params locals blocks
     → Part s (getD s 5 0) starts handlers params locals blocks 6 0
@@ -253,7 +226,7 @@ part-begins s starts handlers params locals blocks w =
     record {
       lent = w;
       countIs = count-byte s (w .laid);
-      few = omega arith;
+      counterBound = omega arith;
       place = refl;
       entries = λ f l h k. absurd (omega arith);
       counts = λ f h. absurd (omega arith);
@@ -295,7 +268,7 @@ module _ (s : List ℕ) (count : ℕ) (starts handlers params locals blocks : Li
           blocksLong = ap length eb ∙ length-set blocks f _ ∙ L .blocksLong;
         };
         countIs = w .countIs;
-        few = omega arith;
+        counterBound = omega arith;
         place = r .place;
         entries = r .entries;
         counts = λ g h. by g h (decLt g f);
@@ -318,7 +291,7 @@ module _ (s : List ℕ) (count : ℕ) (starts handlers params locals blocks : Li
 pub part-full : (s : List ℕ) (count : ℕ) (starts handlers params locals blocks : List ℕ) (at f : ℕ) → Part s count starts handlers params locals blocks at f → count ≤ f
     → Given s count starts handlers params locals blocks
 part-full s count starts handlers params locals blocks at f w h =
-    let e : f ≡ length (programOf s) = omega (arith, w .countIs, w .few) in
+    let e : f ≡ length (programOf s) = omega (arith, w .countIs, w .counterBound) in
     record {
       countIs = w .countIs;
       tables = record { blockEntries = rw e at (w .entries); countEntries = rw e at (w .counts) };

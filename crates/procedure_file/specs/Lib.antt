@@ -1,11 +1,13 @@
--- Procedure files. Definitions, in reading order: Check, Accepted, Places, Tables, Loaded, Lookup, Facts. Laws: the others.
+-- Procedure files. Definitions, in reading order; Asked has what private functions are asked and give.
 pub mod Check
 pub mod Accepted
 pub mod Places
 pub mod Tables
 pub mod Loaded
 pub mod Lookup
-pub mod Facts
+pub mod FileInvariant
+pub mod Asked
+-- Laws: AcceptedLaws proves Accepted, FileInvariantLaws proves FileInvariant of every accepted file.
 pub mod WrittenLaws
 pub mod ReadsBackLaws
 pub mod BytesLaws
@@ -14,6 +16,6 @@ pub mod PlacesLaws
 pub mod FillLaws
 pub mod FileNamesLaws
 pub mod CheckLaws
-pub mod FactsLaws
+pub mod FileInvariantLaws
 pub mod LookupLaws
 pub mod LoadedLaws

@@ -8,8 +8,8 @@ use Rattle.parsing.specs.declared.Checked.the-variants.{Accepted, Refused}
 use Rattle.parsing.specs.Parser.{Verdict, verdictOf}
 use Rattle.procedure_file.specs.Check.{checkOf}
 use Rattle.procedure_file.specs.Loaded.{Loaded, Unchanged, LoadedOr}
-use Rattle.procedure_file.specs.Facts.{Facts}
-use Rattle.procedure_file.specs.FactsLaws.{facts}
+use Rattle.procedure_file.specs.FileInvariant.{FileInvariant}
+use Rattle.procedure_file.specs.FileInvariantLaws.{invariant}
 
 module _ (s starts handlers params locals blocks starts′ handlers′ params′ locals′ blocks′ : List ℕ) (r : Checked)
     (told : verdictOf r ≡ checkOf s)
@@ -25,5 +25,5 @@ module _ (s starts handlers params locals blocks starts′ handlers′ params′
   pub unchanged : (q : Refusal) → r ≡ Refused q → Unchanged starts handlers params locals blocks starts′ handlers′ params′ locals′ blocks′
   unchanged q e = answer (Refused q) e
 
-pub loaded-facts : {s starts handlers params locals blocks : List ℕ} → Loaded s starts handlers params locals blocks → Facts s
-loaded-facts {s} L = facts s (L .bytes) (L .isAccepted)
+pub loaded-invariant : {s starts handlers params locals blocks : List ℕ} → Loaded s starts handlers params locals blocks → FileInvariant s
+loaded-invariant {s} L = invariant s (L .bytes) (L .isAccepted)

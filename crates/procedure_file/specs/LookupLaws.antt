@@ -13,7 +13,7 @@ use Rattle.parsing.specs.declared.Checked.{Checked}
 use Rattle.parsing.specs.declared.Checked.the-variants.{Accepted}
 use Rattle.parsing.specs.ParserLaws.{impossible}
 use Rattle.parsing.specs.Parser.{Verdict, accepted, refused, orElse, verdictOf, refusal}
-use Rattle.parsing.specs.WroteLaws.{Wrote, wrote-cons}
+use Rattle.parsing.specs.BytesAtLaws.{BytesAt, bytes-at-cons}
 use Rattle.semantics.specs.Program.{Program, functionOf}
 use Rattle.procedure_file.specs.declared.lookup.Place.the-variants.{At, Nowhere}
 use Rattle.procedure_layout.specs.Layout.{block}
@@ -21,28 +21,20 @@ use Rattle.procedure_layout.specs.After.{endOf}
 use Rattle.procedure_file.specs.Check.{checkOf, programOf}
 use Rattle.parsing.specs.Bytes.{Bytes}
 use Rattle.procedure_file.specs.Places.{labelPlace, startOf}
-use Rattle.procedure_file.specs.Tables.{slot}
+use Rattle.procedure_file.specs.Tables.{index}
 use Rattle.procedure_file.specs.Loaded.{LoadedOr}
 use Rattle.procedure_file.specs.Lookup.{blockThere, lookupOf, stretch, stretchBy, stretchOf, stretchStart, placeBy, placeOf}
-use Rattle.procedure_file.specs.AcceptedLaws.{Laid, passed, laid-by}
-use Rattle.procedure_file.specs.WrittenLaws.{wrote-block}
+use Rattle.procedure_file.specs.AcceptedLaws.{laid-reads, passed, laid-by}
+use Rattle.procedure_file.specs.WrittenLaws.{bytes-at-block}
 use Rattle.procedure_file.specs.PlacesLaws.{block-inside, start-at, label-at}
-use Rattle.procedure_file.specs.FillLaws.{few-functions, few-blocks, end-is, Given}
+use Rattle.procedure_file.specs.FillLaws.{functions-bound, blocks-bound, end-is}
+use Rattle.procedure_file.specs.Asked.{Laid, Given, Finding}
 
 pub accepted-laid : (s : List ℕ) → Bytes s → (r : Checked) → verdictOf r ≡ checkOf s → r ≡ Accepted → Laid s × (checkOf s ≡ accepted)
 accepted-laid s bytes r e x =
     let a : checkOf s ≡ accepted = sym e ∙ ap verdictOf x in
     let p = passed s a in
-    (laid-by s bytes (p .what) (p .next) (p .reads) (p .short) .0, a)
-
--- What finding a block in the tables asks.
-pub record Finding (s : List ℕ) (count : ℕ) (starts blocks : List ℕ) : Type 0 where
-  pub laid : Laid s
-  pub countIs : count ≡ length (programOf s)
-  pub entries : (f l : ℕ) → f < length (programOf s) → l ≤ length (functionOf (programOf s) f .blocks) → getD starts (slot f l) 0 ≡ startOf (programOf s) f l
-  pub counts : (f : ℕ) → f < length (programOf s) → getD blocks f 0 ≡ length (functionOf (programOf s) f .blocks)
-  pub startsLong : length starts ≡ 2048
-  pub blocksLong : length blocks ≡ 32
+    (laid-by s bytes (p .what) (p .next) (p .reads) (p .fileBound) .0, a)
 
 pub finding-given : (s : List ℕ) (count : ℕ) (starts handlers params locals blocks : List ℕ) → Laid s → Given s count starts handlers params locals blocks
     → length starts ≡ 2048 → length blocks ≡ 32 → Finding s count starts blocks
@@ -68,7 +60,7 @@ module _ (s : List ℕ) (count : ℕ) (starts blocks : List ℕ) (w : Finding s 
     there = omega (arith, is .1, w .countIs)
 
     pub find-function : i < 32
-    find-function = omega (arith, is .0, few-functions s (w .laid) f there)
+    find-function = omega (arith, is .0, functions-bound s (w .laid) f there)
 
     many : getD blocks i 0 ≡ length (functionOf P f .blocks)
     many = ap (λ (k : ℕ). getD blocks k 0) (is .0) ∙ w .counts f there
@@ -76,12 +68,12 @@ module _ (s : List ℕ) (count : ℕ) (starts blocks : List ℕ) (w : Finding s 
     pub find-label : getD blocks i 0 < l → Nowhere (refusal 8 0) ≡ placeBy (blockThere P f l) P f l
     find-label h = rw (lt-ltb f (length P) there, lt-leb l (length (functionOf P f .blocks)) (omega (arith, many)))
 
-    module _ (few : l ≤ getD blocks i 0) where
+    module _ (counterBound : l ≤ getD blocks i 0) where
       within : l ≤ length (functionOf P f .blocks)
       within = omega (arith, many)
 
-      pub find-slot : 64 * i + l < 2048
-      find-slot = omega (arith, is .0, few-functions s (w .laid) f there, few-blocks s (w .laid) f there, within)
+      pub find-index : 64 * i + l < 2048
+      find-index = omega (arith, is .0, functions-bound s (w .laid) f there, blocks-bound s (w .laid) f there, within)
 
       start-is : getD starts (64 * i + l) 0 ≡ startOf P f l
       start-is = ap (λ (k : ℕ). getD starts (64 * k + l) 0) (is .0) ∙ w .entries f l there within
@@ -150,14 +142,14 @@ module _ (s : List ℕ) (f l : ℕ) where
   there-both true false e = impossible (cc)
   there-both false u e = impossible (cc)
 
-  stretch-wrote : (L : Laid s) (k : ℕ) (h : f < length (programOf s)) → k ≤ length (functionOf (programOf s) f .blocks)
-      → Wrote s (stretchStart (programOf s) f k) (labelPlace (programOf s) f k) (stretch (functionOf (programOf s) f) k) × (labelPlace (programOf s) f k ≤ length s)
-  stretch-wrote L zero h m =
-      let b = start-at s (L .bytes) (programOf s) (L .reads) f h 0 m in
-      (wrote-block s (L .bytes) b, block-inside s b .1)
-  stretch-wrote L (suc k) h m =
-      let B = label-at s (L .bytes) (programOf s) (L .reads) f h k m in
-      (rw (B .handlerIs) (wrote-cons s (B .inside) (wrote-block s (L .bytes) (B .block))), block-inside s (B .block) .1)
+  stretch-bytes-at : (L : Laid s) (k : ℕ) (h : f < length (programOf s)) → k ≤ length (functionOf (programOf s) f .blocks)
+      → BytesAt s (stretchStart (programOf s) f k) (labelPlace (programOf s) f k) (stretch (functionOf (programOf s) f) k) × (labelPlace (programOf s) f k ≤ length s)
+  stretch-bytes-at L zero h m =
+      let b = start-at s (L .bytes) (programOf s) (laid-reads L) f h 0 m in
+      (bytes-at-block s (L .bytes) b, block-inside s b .1)
+  stretch-bytes-at L (suc k) h m =
+      let B = label-at s (L .bytes) (programOf s) (laid-reads L) f h k m in
+      (rw (B .handlerIs) (bytes-at-cons s (B .inside) (bytes-at-block s (L .bytes) (B .block))), block-inside s (B .block) .1)
 
   pub record Stretch (a b : ℕ) : Type 0 where
     pub order : a ≤ b
@@ -171,8 +163,8 @@ module _ (s : List ℕ) (f l : ℕ) where
       let v = accepted-both (checkOf s) (blockThere (programOf s) f l) (p .0) in
       let t = there-both (ltb f (length (programOf s))) (leb l (length (functionOf (programOf s) f .blocks))) (v .1) in
       let q = passed s (v .0) in
-      let L = laid-by s bytes (q .what) (q .next) (q .reads) (q .short) .0 in
-      let w = stretch-wrote L l (ltb-true f (length (programOf s)) (t .0)) (leb-true l (length (functionOf (programOf s) f .blocks)) (t .1)) in
+      let L = laid-by s bytes (q .what) (q .next) (q .reads) (q .fileBound) .0 in
+      let w = stretch-bytes-at L l (ltb-true f (length (programOf s)) (t .0)) (leb-true l (length (functionOf (programOf s) f .blocks)) (t .1)) in
       let x : b - a ≡ length (stretch (functionOf (programOf s) f) l) = omega (arith, p .1, p .2, w .0 .past) in
       record {
         order = omega (arith, p .1, p .2, w .0 .past);

@@ -8,19 +8,19 @@ use lib.Seq.{take-all}
 use Rattle.parsing.specs.Parser.{read, joined}
 use Rattle.parsing.specs.Fields.{valueAt}
 use Rattle.parsing.specs.ParserLaws.{ReadMany}
-use Rattle.parsing.specs.WroteLaws.{wrote-many, many-at}
+use Rattle.parsing.specs.BytesAtLaws.{bytes-at-many, many-at}
 use Rattle.semantics.specs.Program.{Block, constant, copy, difference, call, Labelled, Function, Program, noFunction, functionOf}
-use Rattle.procedure_layout.specs.declared.operation.Operation.{Operation}
-use Rattle.procedure_layout.specs.Operation.{operationAt}
+use Rattle.procedure_operations.specs.declared.operation.Operation.{Operation}
+use Rattle.procedure_operations.specs.Operation.{operationAt}
 use Rattle.procedure_layout.specs.Layout.{blockFrom, before, argumentsAt, block, labelled, function}
 use Rattle.procedure_names.specs.Writing.{labelledBytes, functionBytes}
 use Rattle.procedure_layout.specs.Rest.{restFrom, restAt}
 use Rattle.parsing.specs.Bytes.{Bytes}
 use Rattle.procedure_file.specs.Places.{functionPlace, labelPlace, startOf, noLabelled, blockOf, handlerOf}
-use Rattle.procedure_layout.specs.OperationLaws.{op-constant, op-copy, op-difference, op-call, op-goto, op-return, op-branch, op-raise}
+use Rattle.procedure_operations.specs.OperationLaws.{op-constant, op-copy, op-difference, op-call, op-goto, op-return, op-branch, op-raise}
 use Rattle.procedure_layout.specs.WalkLaws.{block-law, rest-law}
 use Rattle.procedure_layout.specs.BlockLaws.{ReadBlock, readConstant, readCopy, readDifference, readCall, readGoto, readReturn, readBranch, readRaise}
-use Rattle.procedure_file.specs.WrittenLaws.{wrote-block, wrote-labelled, wrote-function, ReadLabelled, read-labelled, ReadFunction, read-function, ReadProgram}
+use Rattle.procedure_file.specs.WrittenLaws.{bytes-at-block, bytes-at-labelled, bytes-at-function, ReadLabelled, read-labelled, ReadFunction, read-function, ReadProgram}
 
 module _ (s : List ℕ) where
   from : (at : ℕ) (o : Operation) → operationAt s at ≡ o → block s at ≡ blockFrom s at o (block s)
@@ -68,7 +68,7 @@ module _ (s : List ℕ) (bytes : Bytes s) (P : Program) (reads : ReadProgram s P
   -- Function f stands at its place.
   pub function-at : (f : ℕ) → f < length P → ReadFunction s (functionPlace P f) (functionOf P f) (functionPlace P (suc f))
   unfolding functionPlace
-  function-at f h = read-function s _ _ _ (many-at function functionBytes s (wrote-function s bytes) noFunction (reads .functions) f h)
+  function-at f h = read-function s _ _ _ (many-at function functionBytes s (bytes-at-function s bytes) noFunction (reads .functions) f h)
 
   module _ (f : ℕ) (there : f < length P) where
     abbrev F : Function
@@ -76,7 +76,7 @@ module _ (s : List ℕ) (bytes : Bytes s) (P : Program) (reads : ReadProgram s P
 
     middle-is : function-at f there .middle ≡ labelPlace P f 0
     unfolding labelPlace
-    middle-is = omega (arith, wrote-block s bytes (function-at f there .entry) .past)
+    middle-is = omega (arith, bytes-at-block s bytes (function-at f there .entry) .past)
 
     pub entry-at : ReadBlock s (functionPlace P f + 3) (F .entry) (labelPlace P f 0)
     entry-at = rw middle-is at (function-at f there .entry)
@@ -91,25 +91,25 @@ module _ (s : List ℕ) (bytes : Bytes s) (P : Program) (reads : ReadProgram s P
     -- Labelled block l + 1 stands at its place.
     pub label-at : (l : ℕ) → l < length (F .blocks) → ReadLabelled s (labelPlace P f l) (getD (F .blocks) l noLabelled) (labelPlace P f (suc l))
     label-at l h =
-        let e = many-at labelled labelledBytes s (wrote-labelled s bytes) noLabelled labels l h in
+        let e = many-at labelled labelledBytes s (bytes-at-labelled s bytes) noLabelled labels l h in
         read-labelled s _ _ _ (rw (place-more l, place-more (suc l)) at e)
 
     -- Behind its last labelled block a function ends.
     pub function-ends : labelPlace P f (length (F .blocks)) ≡ functionPlace P (suc f)
     function-ends =
-        let w = wrote-many labelled labelledBytes s (wrote-labelled s bytes) labels in
+        let w = bytes-at-many labelled labelledBytes s (bytes-at-labelled s bytes) labels in
         sym (place-more (length (F .blocks)))
         ∙ ap (λ (Bs : List Labelled). labelPlace P f 0 + length (joined labelledBytes Bs)) (take-all (length (F .blocks)) (F .blocks) (omega arith))
         ∙ sym (w .past)
 
     pub label-next : (l : ℕ) → l < length (F .blocks) → labelPlace P f l + length (labelledBytes (getD (F .blocks) l noLabelled)) ≡ labelPlace P f (suc l)
     label-next l h =
-        let e = many-at labelled labelledBytes s (wrote-labelled s bytes) noLabelled labels l h in
-        sym (wrote-labelled s bytes _ _ _ (rw (place-more l, place-more (suc l)) at e) .past)
+        let e = many-at labelled labelledBytes s (bytes-at-labelled s bytes) noLabelled labels l h in
+        sym (bytes-at-labelled s bytes _ _ _ (rw (place-more l, place-more (suc l)) at e) .past)
 
     pub function-next : functionPlace P f + length (functionBytes F) ≡ functionPlace P (suc f)
     unfolding functionPlace
-    function-next = sym (wrote-function s bytes _ _ _ (many-at function functionBytes s (wrote-function s bytes) noFunction (reads .functions) f there) .past)
+    function-next = sym (bytes-at-function s bytes _ _ _ (many-at function functionBytes s (bytes-at-function s bytes) noFunction (reads .functions) f there) .past)
 
     -- The block with a label begins at its start.
     pub start-at : (l : ℕ) → l ≤ length (F .blocks) → ReadBlock s (startOf P f l) (blockOf F l) (labelPlace P f l)

@@ -14,13 +14,13 @@ use Rattle.parsing.specs.Fields.{byte, count, valueOf, valueAt}
 use Rattle.parsing.specs.ReadsLaws.{Reads, behind, byte-here, first-here, length-here, next-here, reads-bind, reads-map, reads-many, reads-byte, reads-count, reads-marked, reads-version, reads-ended}
 use Rattle.semantics.specs.Program.{Block, constant, copy, difference, call, goto, return, branch, raise, Labelled, Function, Program}
 use Rattle.semantics.specs.WellFormed.{All}
-use Rattle.procedure_layout.specs.declared.operation.Operation.{Operation}
-use Rattle.procedure_layout.specs.declared.operation.Operation.the-variants.{Constant, Copy, Difference, Call, Goto, Return, Branch, Raise}
-use Rattle.procedure_layout.specs.Operation.{operationAt}
+use Rattle.procedure_operations.specs.declared.operation.Operation.{Operation}
+use Rattle.procedure_operations.specs.declared.operation.Operation.the-variants.{Constant, Copy, Difference, Call, Goto, Return, Branch, Raise}
+use Rattle.procedure_operations.specs.Operation.{operationAt}
 use Rattle.procedure_layout.specs.Layout.{spf, argumentsAt, blockFrom, before, block, labelled, heading, function, program}
 use Rattle.parsing.specs.Bytes.{valueBytes}
 use Rattle.procedure_names.specs.Writing.{blockBytes, labelledBytes, functionBytes, writing, ValuesFit, FunctionInRange, InRange}
-use Rattle.procedure_layout.specs.OperationLaws.{op-constant, op-copy, op-difference, op-call, op-goto, op-return, op-branch, op-raise}
+use Rattle.procedure_operations.specs.OperationLaws.{op-constant, op-copy, op-difference, op-call, op-goto, op-return, op-branch, op-raise}
 use Rattle.procedure_layout.specs.WalkLaws.{block-law}
 
 -- What holds of every element holds of each.
@@ -39,8 +39,8 @@ value-forth i f =
     rw e (toZ-ofZ f)
 
 -- An operation before a block that is read.
-onto : (s : List ℕ) (at m n n′ : ℕ) (c : Block → Block) (b : Block) → block s at ≡ before c (block s m) → block s m ≡ read b n → n ≡ n′ → block s at ≡ read (c b) n′
-onto s at m n n′ c b e r q = e ∙ ap (before c) r ∙ ap (read (c b)) q
+block-behind : (s : List ℕ) (at m n n′ : ℕ) (c : Block → Block) (b : Block) → block s at ≡ before c (block s m) → block s m ≡ read b n → n ≡ n′ → block s at ≡ read (c b) n′
+block-behind s at m n n′ c b e r q = e ∙ ap (before c) r ∙ ap (read (c b)) q
 
 module _ (s : List ℕ) (at : ℕ) where
   from : (o : Operation) → operationAt s at ≡ o → block s at ≡ blockFrom s at o (block s)
@@ -101,13 +101,13 @@ module _ (s : List ℕ) (at : ℕ) where
 
 pub reads-block : (b : Block) → ValuesFit b → (s : List ℕ) (at : ℕ) (rest : List ℕ) → drop at s ≡ blockBytes b ++ rest → block s at ≡ read b (at + length (blockBytes b))
 reads-block (constant x i b) f s at rest h =
-    onto s at (at + 6) _ _ (constant x i) b (from s at _ (constant-here s at x i (blockBytes b ++ rest) (f .0) h))
+    block-behind s at (at + 6) _ _ (constant x i) b (from s at _ (constant-here s at x i (blockBytes b ++ rest) (f .0) h))
     (reads-block b (f .1) s (at + 6) rest (next-here s at (1 ∷ x ∷ (valueBytes i ++ (blockBytes b ++ rest))) h 6)) (omega arith)
 reads-block (copy x y b) f s at rest h =
-    onto s at (at + 3) _ _ (copy x y) b (from s at _ (copy-here s at x y (blockBytes b ++ rest) h))
+    block-behind s at (at + 3) _ _ (copy x y) b (from s at _ (copy-here s at x y (blockBytes b ++ rest) h))
     (reads-block b f s (at + 3) rest (next-here s at (2 ∷ x ∷ y ∷ (blockBytes b ++ rest)) h 3)) (omega arith)
 reads-block (difference x y z b) f s at rest h =
-    onto s at (at + 4) _ _ (difference x y z) b (from s at _ (difference-here s at x y z (blockBytes b ++ rest) h))
+    block-behind s at (at + 4) _ _ (difference x y z) b (from s at _ (difference-here s at x y z (blockBytes b ++ rest) h))
     (reads-block b f s (at + 4) rest (next-here s at (3 ∷ x ∷ y ∷ z ∷ (blockBytes b ++ rest)) h 4)) (omega arith)
 reads-block (call x g ys b) f s at rest h =
     let n = length ys in
@@ -115,7 +115,7 @@ reads-block (call x g ys b) f s at rest h =
     let a : drop (at + 4) s ≡ ys ++ (blockBytes b ++ rest) = next-here s at (4 ∷ x ∷ g ∷ n ∷ (ys ++ (blockBytes b ++ rest))) h′ 4 in
     let as′ : argumentsAt s at n ≡ ys = ap (take n) a ∙ take-at ys (blockBytes b ++ rest) n refl in
     let o = call-here s at x g n (ys ++ (blockBytes b ++ rest)) h′ (omega (arith, length-append ys (blockBytes b ++ rest))) in
-    onto s at (at + 4 + n) _ _ (call x g ys) b (from s at _ o ∙ ap (λ (l : List ℕ). before (call x g l) (block s (at + 4 + n))) as′)
+    block-behind s at (at + 4 + n) _ _ (call x g ys) b (from s at _ o ∙ ap (λ (l : List ℕ). before (call x g l) (block s (at + 4 + n))) as′)
     (reads-block b f s (at + 4 + n) rest (behind s (at + 4) ys (blockBytes b ++ rest) a)) (omega (arith, length-append ys (blockBytes b)))
 reads-block (goto l) f s at rest h = from s at _ (goto-here s at l rest h)
 reads-block (return x) f s at rest h = from s at _ (return-here s at x rest h)

@@ -7,12 +7,12 @@ use Rattle.semantics.specs.Program.{Program, functionOf}
 use Rattle.procedure_file.specs.Places.{startOf, handlerOf}
 
 -- The block with label l of function f is at 64 f + l; label 0 is the entry block.
-abbrev pub slot : ℕ → ℕ → ℕ
-slot f l = 64 * f + l
+abbrev pub index : ℕ → ℕ → ℕ
+index f l = 64 * f + l
 
 pub record BlockEntry (P : Program) (f l : ℕ) (starts handlers : List ℕ) : Type 0 where
-  pub start : getD starts (slot f l) 0 ≡ startOf P f l
-  pub handler : getD handlers (slot f l) 0 ≡ handlerOf (functionOf P f) l
+  pub start : getD starts (index f l) 0 ≡ startOf P f l
+  pub handler : getD handlers (index f l) 0 ≡ handlerOf (functionOf P f) l
 
 pub record CountEntry (P : Program) (f : ℕ) (params locals blocks : List ℕ) : Type 0 where
   pub paramsAre : getD params f 0 ≡ functionOf P f .params

@@ -10,8 +10,8 @@ use mir.Val.{Fits, SFits}
 use mir.Facts.{ofZ-toZ, sfits-toZ}
 use Rattle.parsing.specs.Parser.{read, andThen, many, joined}
 use Rattle.parsing.specs.Fields.{byte, marked, version, count, ended, valueOf, valueAt}
-use Rattle.parsing.specs.ParserLaws.{both, ReadMany, none, one, read-many, read-byte, read-count}
-use Rattle.parsing.specs.WroteLaws.{Wrote, wrote-join, wrote-cons, wrote-byte, span, wrote-span, wrote-many, wrote-marked, wrote-version, read-ended}
+use Rattle.parsing.specs.ParserLaws.{sequence, ReadMany, none, one, read-many, read-byte, read-count}
+use Rattle.parsing.specs.BytesAtLaws.{BytesAt, bytes-at-join, bytes-at-cons, bytes-at-byte, span, bytes-at-span, bytes-at-many, bytes-at-marked, bytes-at-version, read-ended}
 use Rattle.semantics.specs.Program.{Block, Labelled, Function, Program}
 use Rattle.semantics.specs.WellFormed.{All}
 use Rattle.procedure_layout.specs.Layout.{spf, argumentsAt, block, labelled, Heading, heading, function, program}
@@ -57,11 +57,11 @@ module _ (s : List ℕ) (bytes : Bytes s) where
   value-fits at = rw (value-at at) (value-range _ _ _ _ (bytes (at + 2)) (bytes (at + 3)) (bytes (at + 4)) (bytes (at + 5)))
 
   -- The operation byte and its operands.
-  operands : (at k n : ℕ) → getD s at 0 ≡ k → at + (1 + n) ≤ length s → Wrote s at (at + (1 + n)) (k ∷ span s at 1 n)
-  operands at k n e h = rw (← e) (wrote-cons s (omega arith) (wrote-span s at 1 n h))
+  operands : (at k n : ℕ) → getD s at 0 ≡ k → at + (1 + n) ≤ length s → BytesAt s at (at + (1 + n)) (k ∷ span s at 1 n)
+  operands at k n e h = rw (← e) (bytes-at-cons s (omega arith) (bytes-at-span s at 1 n h))
 
-  wrote-arguments : (at n : ℕ) → at + n ≤ length s → Wrote s at (at + n) (take n (drop at s))
-  wrote-arguments at n h =
+  bytes-at-arguments : (at n : ℕ) → at + n ≤ length s → BytesAt s at (at + n) (take n (drop at s))
+  bytes-at-arguments at n h =
       let l = length-drop at s in
       record {
         stands = sym (take-append-drop n (drop at s)) ∙ ap (λ (r : List ℕ). take n (drop at s) ++ r) (drop-drop n at s);
@@ -71,21 +71,21 @@ module _ (s : List ℕ) (bytes : Bytes s) where
   pub arguments-length : (at n : ℕ) → at + 4 + n ≤ length s → length (argumentsAt s at n) ≡ n
   arguments-length at n h = let l = length-drop (at + 4) s in length-take-le n (drop (at + 4) s) (omega arith)
 
-  pub wrote-block : {at next : ℕ} {b : Block} → ReadBlock s at b next → Wrote s at next (blockBytes b)
-  wrote-block (readConstant {at} {next} {b} e h r) =
-      let w : Wrote s at (at + 6) (1 ∷ getD s (at + 1) 0 ∷ valueBytes (valueAt s (at + 2))) = rw (value-bytes at) (operands at 1 5 e h) in
-      wrote-join s w (wrote-block r)
-  wrote-block (readCopy {at} e h r) = wrote-join s (operands at 2 2 e h) (wrote-block r)
-  wrote-block (readDifference {at} e h r) = wrote-join s (operands at 3 3 e h) (wrote-block r)
-  wrote-block (readCall {at} {next} {b} e h r) =
+  pub bytes-at-block : {at next : ℕ} {b : Block} → ReadBlock s at b next → BytesAt s at next (blockBytes b)
+  bytes-at-block (readConstant {at} {next} {b} e h r) =
+      let w : BytesAt s at (at + 6) (1 ∷ getD s (at + 1) 0 ∷ valueBytes (valueAt s (at + 2))) = rw (value-bytes at) (operands at 1 5 e h) in
+      bytes-at-join s w (bytes-at-block r)
+  bytes-at-block (readCopy {at} e h r) = bytes-at-join s (operands at 2 2 e h) (bytes-at-block r)
+  bytes-at-block (readDifference {at} e h r) = bytes-at-join s (operands at 3 3 e h) (bytes-at-block r)
+  bytes-at-block (readCall {at} {next} {b} e h r) =
       let n = getD s (at + 3) 0 in
-      let o : Wrote s at (at + 4) (4 ∷ getD s (at + 1) 0 ∷ getD s (at + 2) 0 ∷ n ∷ []) = operands at 4 3 e (omega arith) in
-      let a : Wrote s (at + 4) (at + 4 + n) (argumentsAt s at n) = wrote-arguments (at + 4) n h in
-      rw (arguments-length at n h) (wrote-join s o (wrote-join s a (wrote-block r)))
-  wrote-block (readGoto {at} e h) = operands at 5 1 e h
-  wrote-block (readReturn {at} e h) = operands at 6 1 e h
-  wrote-block (readBranch {at} e h) = operands at 7 4 e h
-  wrote-block (readRaise {at} e h) = rw (← e) (wrote-byte s at (omega arith))
+      let o : BytesAt s at (at + 4) (4 ∷ getD s (at + 1) 0 ∷ getD s (at + 2) 0 ∷ n ∷ []) = operands at 4 3 e (omega arith) in
+      let a : BytesAt s (at + 4) (at + 4 + n) (argumentsAt s at n) = bytes-at-arguments (at + 4) n h in
+      rw (arguments-length at n h) (bytes-at-join s o (bytes-at-join s a (bytes-at-block r)))
+  bytes-at-block (readGoto {at} e h) = operands at 5 1 e h
+  bytes-at-block (readReturn {at} e h) = operands at 6 1 e h
+  bytes-at-block (readBranch {at} e h) = operands at 7 4 e h
+  bytes-at-block (readRaise {at} e h) = rw (← e) (bytes-at-byte s at (omega arith))
 
   pub fit-block : {at next : ℕ} {b : Block} → ReadBlock s at b next → ValuesFit b
   fit-block (readConstant {at} e h r) = (value-fits at, fit-block r)
@@ -106,8 +106,8 @@ pub record ReadLabelled (s : List ℕ) (at : ℕ) (B : Labelled) (next : ℕ) : 
 pub read-labelled : (s : List ℕ) (at : ℕ) (B : Labelled) (next : ℕ) → labelled s at ≡ read B next → ReadLabelled s at B next
 unfolding labelled
 read-labelled s at B next e =
-    let x = both (byte s at) (λ h m. andThen (block s m) (λ b k. read (record { handler = h; block = b }) k)) e in
-    let y = both (block s (x .middle)) (λ b k. read (record { handler = x .first; block = b }) k) (x .follows) in
+    let x = sequence (byte s at) (λ h m. andThen (block s m) (λ b k. read (record { handler = h; block = b }) k)) e in
+    let y = sequence (block s (x .middle)) (λ b k. read (record { handler = x .first; block = b }) k) (x .follows) in
     let z = read-byte s at (x .reads) in
     go (x .first) (y .first) (x .middle) (y .middle) (y .follows) (z .inside) (z .is) (z .past) (y .reads)
   where
@@ -128,9 +128,9 @@ pub record ReadFunction (s : List ℕ) (at : ℕ) (F : Function) (next : ℕ) : 
 pub read-function : (s : List ℕ) (at : ℕ) (F : Function) (next : ℕ) → function s at ≡ read F next → ReadFunction s at F next
 unfolding function
 read-function s at F next e =
-    let x = both (heading s at) (λ h m. andThen (block s m) (λ b k. andThen (many (h .blocks) labelled s k) (λ bs j. read (record { params = h .params; locals = h .locals; entry = b; blocks = bs }) j))) e in
-    let y = both (block s (x .middle)) (λ b k. andThen (many (x .first .blocks) labelled s k) (λ bs j. read (record { params = x .first .params; locals = x .first .locals; entry = b; blocks = bs }) j)) (x .follows) in
-    let z = both (many (x .first .blocks) labelled s (y .middle)) (λ bs j. read (record { params = x .first .params; locals = x .first .locals; entry = y .first; blocks = bs }) j) (y .follows) in
+    let x = sequence (heading s at) (λ h m. andThen (block s m) (λ b k. andThen (many (h .blocks) labelled s k) (λ bs j. read (record { params = h .params; locals = h .locals; entry = b; blocks = bs }) j))) e in
+    let y = sequence (block s (x .middle)) (λ b k. andThen (many (x .first .blocks) labelled s k) (λ bs j. read (record { params = x .first .params; locals = x .first .locals; entry = b; blocks = bs }) j)) (x .follows) in
+    let z = sequence (many (x .first .blocks) labelled s (y .middle)) (λ bs j. read (record { params = x .first .params; locals = x .first .locals; entry = y .first; blocks = bs }) j) (y .follows) in
     let h = read-heading s at (x .first) (x .middle) (x .reads) in
     let l = read-many labelled s (x .first .blocks) (y .middle) (z .reads) in
     go (x .first) (y .first) (z .first) (x .middle) (y .middle) (z .middle) (z .follows) (h .0) (h .1) (y .reads) (l .0) (l .1)
@@ -145,45 +145,45 @@ read-function s at F next e =
 
 -- A program that was read.
 pub record ReadProgram (s : List ℕ) (P : Program) : Type 0 where
-  pub head : Wrote s 0 6 (83 ∷ 80 ∷ 70 ∷ 1 ∷ 0 ∷ length P ∷ [])
+  pub head : BytesAt s 0 6 (83 ∷ 80 ∷ 70 ∷ 1 ∷ 0 ∷ length P ∷ [])
   pub least : 1 ≤ length P
   pub most : length P ≤ 32
   pub functions : ReadMany function s 6 P (length s)
 
 -- An end that was not passed.
-wrote-end : (s : List ℕ) (next : ℕ) (w : List ℕ) → Wrote s 6 next w → 6 ≤ length s → length s ≤ next → next ≡ length s
-wrote-end s next w a h k =
+bytes-at-end : (s : List ℕ) (next : ℕ) (w : List ℕ) → BytesAt s 6 next w → 6 ≤ length s → length s ≤ next → next ≡ length s
+bytes-at-end s next w a h k =
     let l : length (drop 6 s) ≡ length w =
     ap length (a .stands ∙ ap (λ (r : List ℕ). w ++ r) (drop-of-length-le s k) ∙ append-nil w) in
     omega (arith, l, length-drop 6 s, a .past)
 
 module _ (s : List ℕ) (bytes : Bytes s) where
-  pub wrote-labelled : (at : ℕ) (B : Labelled) (next : ℕ) → labelled s at ≡ read B next → Wrote s at next (labelledBytes B)
-  wrote-labelled at B next e =
+  pub bytes-at-labelled : (at : ℕ) (B : Labelled) (next : ℕ) → labelled s at ≡ read B next → BytesAt s at next (labelledBytes B)
+  bytes-at-labelled at B next e =
       let r = read-labelled s at B next e in
-      rw (r .handlerIs) (wrote-cons s (r .inside) (wrote-block s bytes (r .block)))
+      rw (r .handlerIs) (bytes-at-cons s (r .inside) (bytes-at-block s bytes (r .block)))
 
-  pub wrote-function : (at : ℕ) (F : Function) (next : ℕ) → function s at ≡ read F next → Wrote s at next (functionBytes F)
-  wrote-function at F next e =
+  pub bytes-at-function : (at : ℕ) (F : Function) (next : ℕ) → function s at ≡ read F next → BytesAt s at next (functionBytes F)
+  bytes-at-function at F next e =
       let r = read-function s at F next e in
       let h = r .here in
-      let o : Wrote s at (at + 3) (F .params ∷ F .locals ∷ length (F .blocks) ∷ []) =
+      let o : BytesAt s at (at + 3) (F .params ∷ F .locals ∷ length (F .blocks) ∷ []) =
       rw (h .localsAre, h .blocksAre) (operands s bytes at (F .params) 2 (sym (h .paramsAre)) (h .inside)) in
-      wrote-join s o
-      (wrote-join s (wrote-block s bytes (r .entry)) (wrote-many labelled labelledBytes s wrote-labelled (r .labels)))
+      bytes-at-join s o
+      (bytes-at-join s (bytes-at-block s bytes (r .entry)) (bytes-at-many labelled labelledBytes s bytes-at-labelled (r .labels)))
 
   pub read-program : (P : Program) (next : ℕ) → program s 0 ≡ read P next → ReadProgram s P
   unfolding program
   read-program P next e =
-      let a = both (marked spf s 0) (λ u m₁. andThen (version s m₁) (λ v m₂. andThen (count 1 32 s m₂) (λ n m₃. andThen (many n function s m₃) (λ fs m₄. andThen (ended s m₄) (λ w m₅. read fs m₅))))) e in
-      let b = both (version s (a .middle)) (λ v m₂. andThen (count 1 32 s m₂) (λ n m₃. andThen (many n function s m₃) (λ fs m₄. andThen (ended s m₄) (λ w m₅. read fs m₅)))) (a .follows) in
-      let c = both (count 1 32 s (b .middle)) (λ n m₃. andThen (many n function s m₃) (λ fs m₄. andThen (ended s m₄) (λ w m₅. read fs m₅))) (b .follows) in
-      let d = both (many (c .first) function s (c .middle)) (λ fs m₄. andThen (ended s m₄) (λ w m₅. read fs m₅)) (c .follows) in
-      let f = both (ended s (d .middle)) (λ w m₅. read (d .first) m₅) (d .follows) in
-      go (a .middle) (b .middle) (c .first) (c .middle) (d .first) (d .middle) (f .middle) (wrote-marked s spf 0 (a .reads)) (wrote-version s (a .middle) (b .reads)) (c .reads) (d .reads)
+      let a = sequence (marked spf s 0) (λ u m₁. andThen (version s m₁) (λ v m₂. andThen (count 1 32 s m₂) (λ n m₃. andThen (many n function s m₃) (λ fs m₄. andThen (ended s m₄) (λ w m₅. read fs m₅))))) e in
+      let b = sequence (version s (a .middle)) (λ v m₂. andThen (count 1 32 s m₂) (λ n m₃. andThen (many n function s m₃) (λ fs m₄. andThen (ended s m₄) (λ w m₅. read fs m₅)))) (a .follows) in
+      let c = sequence (count 1 32 s (b .middle)) (λ n m₃. andThen (many n function s m₃) (λ fs m₄. andThen (ended s m₄) (λ w m₅. read fs m₅))) (b .follows) in
+      let d = sequence (many (c .first) function s (c .middle)) (λ fs m₄. andThen (ended s m₄) (λ w m₅. read fs m₅)) (c .follows) in
+      let f = sequence (ended s (d .middle)) (λ w m₅. read (d .first) m₅) (d .follows) in
+      go (a .middle) (b .middle) (c .first) (c .middle) (d .first) (d .middle) (f .middle) (bytes-at-marked s spf 0 (a .reads)) (bytes-at-version s (a .middle) (b .reads)) (c .reads) (d .reads)
       (read-ended s (d .middle) (f .reads) .0) (f .follows)
     where
-      go : (m₁ m₂ n m₃ : ℕ) (fs : List Function) (m₄ m₅ : ℕ) → Wrote s 0 m₁ spf → Wrote s m₁ m₂ (1 ∷ 0 ∷ []) → count 1 32 s m₂ ≡ read n m₃
+      go : (m₁ m₂ n m₃ : ℕ) (fs : List Function) (m₄ m₅ : ℕ) → BytesAt s 0 m₁ spf → BytesAt s m₁ m₂ (1 ∷ 0 ∷ []) → count 1 32 s m₂ ≡ read n m₃
           → many n function s m₃ ≡ read fs m₄ → length s ≤ m₄ → read fs m₅ ≡ read P next → ReadProgram s P
       go m₁ m₂ n m₃ fs m₄ m₅ x y z w l v =
           let p : fs ≡ P = cc in
@@ -193,13 +193,13 @@ module _ (s : List ℕ) (bytes : Bytes s) where
           let e₃ : m₃ ≡ 6 = omega (arith, k .byte .past) in
           let r : ReadMany function s 6 P m₄ = rw (← e₃, ← p) (q .0) in
           let j : length P ≡ n = rw (← p) (q .1) in
-          let u = wrote-many function functionBytes s wrote-function r in
+          let u = bytes-at-many function functionBytes s bytes-at-function r in
           let i : 6 ≤ length s = omega (arith, k .byte .inside) in
-          let o : m₄ ≡ length s = wrote-end s m₄ (joined functionBytes P) u i l in
-          let g : Wrote s 5 6 (getD s 5 0 ∷ []) = wrote-byte s 5 (omega arith) in
+          let o : m₄ ≡ length s = bytes-at-end s m₄ (joined functionBytes P) u i l in
+          let g : BytesAt s 5 6 (getD s 5 0 ∷ []) = bytes-at-byte s 5 (omega arith) in
           let nb : getD s 5 0 ≡ length P = ap (λ (t : ℕ). getD s t 0) (sym e₂) ∙ sym (k .byte .is) ∙ sym j in
           record {
-            head = wrote-join s (wrote-join s x (rw e₂ at y)) (rw nb at g);
+            head = bytes-at-join s (bytes-at-join s x (rw e₂ at y)) (rw nb at g);
             least = omega (arith, k .least);
             most = omega (arith, k .most);
             functions = rw o at r;
@@ -209,7 +209,7 @@ module _ (s : List ℕ) (bytes : Bytes s) where
   pub written : (P : Program) → ReadProgram s P → s ≡ writing P
   unfolding writing
   written P r =
-      let w = wrote-join s (r .head) (wrote-many function functionBytes s wrote-function (r .functions)) in
+      let w = bytes-at-join s (r .head) (bytes-at-many function functionBytes s bytes-at-function (r .functions)) in
       w .stands ∙ ap (λ (l : List ℕ). (83 ∷ 80 ∷ 70 ∷ 1 ∷ 0 ∷ length P ∷ joined functionBytes P) ++ l) (drop-length s) ∙ append-nil _
 
   -- Its counts and values are in range.
@@ -221,9 +221,9 @@ module _ (s : List ℕ) (bytes : Bytes s) where
   function-range at F next e =
       let r = read-function s at F next e in
       record {
-        params = r .here .fewParams;
-        locals = r .here .fewLocals;
-        blocks = r .here .fewBlocks;
+        params = r .here .paramsBound;
+        locals = r .here .localsBound;
+        blocks = r .here .blocksBound;
         entryValues = fit-block s bytes (r .entry);
         blockValues = labels-fit (r .labels);
       }

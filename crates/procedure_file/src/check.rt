@@ -10,8 +10,7 @@ ghost use Prim.Native.Nat.{_<_};
 ghost use Rattle.parsing.specs.Parser.{verdictOf};
 ghost use Rattle.procedure_names.specs.Names.{namesOf, firstWrong};
 ghost use Rattle.procedure_file.specs.Check.{checkOf, programOf};
-ghost use Rattle.procedure_file.specs.AcceptedLaws.{Laid};
-ghost use Rattle.procedure_file.specs.FileNamesLaws.{labelledVerdict, Naming, functionVerdict, NamingAll};
+ghost use Rattle.procedure_file.specs.Asked.{Laid, labelledVerdict, Naming, functionVerdict, NamingAll};
 
 // A labelled block: its handler, which stands before its first operation, and its operations.
 fn labelled_named(
@@ -55,9 +54,9 @@ fn function_named(
     }
     let mut l = 0;
     while l < labels {
-        let slot = row + (l + 1);
-        let start = starts[slot] as usize;
-        match labelled_named(file, handlers[slot], start, params, variables, labels) {
+        let index = row + (l + 1);
+        let start = starts[index] as usize;
+        match labelled_named(file, handlers[index], start, params, variables, labels) {
             Checked::Refused(r) => {
                 return Checked::Refused(r);
             }

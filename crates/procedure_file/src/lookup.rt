@@ -9,9 +9,8 @@ ghost use mathlib.Core.Path.{_≡_};
 ghost use Prim.Native.Nat.{_+_};
 ghost use Rattle.parsing.specs.Parser.{verdictOf};
 ghost use Rattle.procedure_file.specs.Check.{checkOf, programOf};
-ghost use Rattle.procedure_file.specs.AcceptedLaws.{Laid};
+ghost use Rattle.procedure_file.specs.Asked.{Laid, Finding};
 ghost use Rattle.procedure_file.specs.Loaded.{LoadedOr};
-ghost use Rattle.procedure_file.specs.LookupLaws.{Finding};
 ghost use Rattle.procedure_file.specs.Lookup.{blockThere, lookupOf, stretchOf, placeBy, placeOf};
 
 // Where a block's stretch begins and ends.
@@ -38,8 +37,8 @@ fn find_in(file: &[u8], f: u8, label: u8, count: usize, starts: &[u16], blocks: 
                     place: 0,
                 });
             }
-            let slot = 64 * i + (label as usize);
-            let start = starts[slot] as usize;
+            let index = 64 * i + (label as usize);
+            let start = starts[index] as usize;
             let to = tables::block_past(file, start);
             if label == 0 {
                 return Place::At { from: start, to };

@@ -6,7 +6,7 @@ ghost use Prim.Native.Nat.{_+_, _<_};
 ghost use lib.ListN.{length, set};
 ghost use Rattle.procedure_layout.specs.Layout.{block};
 ghost use Rattle.procedure_layout.specs.After.{endOf};
-ghost use Rattle.procedure_file.specs.FillLaws.{Filling, Filled, Lent, Given};
+ghost use Rattle.procedure_file.specs.Asked.{Filling, Filled, Lent, Given};
 
 // The offset past the block at an offset.
 pub fn block_past(file: &[u8], at: usize) -> usize
@@ -18,12 +18,12 @@ pub fn block_past(file: &[u8], at: usize) -> usize
     }
 }
 
-fn put_block(starts: &mut [u16], handlers: &mut [u8], slot: usize, start: usize, handler: u8)
-    requires { ⌜ (slot < length (now starts)) × (slot < length (now handlers)) × (start < 65536) ⌝ }
-    ensures { λ r. ⌜ (now (starts .exit) ≡ set (now (starts .entry)) slot start) × (now (handlers .exit) ≡ set (now (handlers .entry)) slot handler) ⌝ }
+fn put_block(starts: &mut [u16], handlers: &mut [u8], index: usize, start: usize, handler: u8)
+    requires { ⌜ (index < length (now starts)) × (index < length (now handlers)) × (start < 65536) ⌝ }
+    ensures { λ r. ⌜ (now (starts .exit) ≡ set (now (starts .entry)) index start) × (now (handlers .exit) ≡ set (now (handlers .entry)) index handler) ⌝ }
 {
-    starts[slot] = start as u16;
-    handlers[slot] = handler;
+    starts[index] = start as u16;
+    handlers[index] = handler;
 }
 
 // The row of function f, which stands at `at`; gives the offset past the function.
@@ -40,10 +40,10 @@ fn fill_row(file: &[u8], f: usize, at: usize, starts: &mut [u16], handlers: &mut
     let mut l = 0;
     while l < labels {
         l += 1;
-        let slot = row + l;
+        let index = row + l;
         let start = place + 1;
         let handler = file[place];
-        put_block(&mut starts[..], &mut handlers[..], slot, start, handler);
+        put_block(&mut starts[..], &mut handlers[..], index, start, handler);
         place = block_past(file, start);
     }
     place

@@ -3,8 +3,8 @@ use Prim.Native.Nat.{ℕ}
 use Rattle.parsing.specs.declared.Count.{Count}
 use Rattle.parsing.specs.declared.Count.the-variants.{Is, Outside}
 use Rattle.parsing.specs.Parser.{Parsed, read, refuse}
-use Rattle.procedure_layout.specs.declared.operation.Operation.{Operation}
-use Rattle.procedure_layout.specs.declared.operation.Operation.the-variants.{Constant, Copy, Difference, Call, Goto, Return, Branch, Raise, Refused}
+use Rattle.procedure_operations.specs.declared.operation.Operation.{Operation}
+use Rattle.procedure_operations.specs.declared.operation.Operation.the-variants.{Constant, Copy, Difference, Call, Goto, Return, Branch, Raise, Refused}
 use Rattle.procedure_layout.specs.declared.layout.After.{After}
 use Rattle.procedure_layout.specs.declared.layout.After.the-variants.{Onward, Ended, Halted}
 use Rattle.semantics.specs.Program.{Block}

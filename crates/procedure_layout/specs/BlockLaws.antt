@@ -8,9 +8,9 @@ use Rattle.parsing.specs.ParserLaws.{impossible}
 use Rattle.parsing.specs.Parser.{Parsed, read, refuse}
 use Rattle.parsing.specs.Fields.{valueAt}
 use Rattle.semantics.specs.Program.{Block, constant, copy, difference, call, goto, return, branch, raise}
-use Rattle.procedure_layout.specs.declared.operation.Operation.{Operation}
+use Rattle.procedure_operations.specs.declared.operation.Operation.{Operation}
 use Rattle.procedure_layout.specs.Layout.{blockFrom, before, argumentsAt, block}
-use Rattle.procedure_layout.specs.ViewLaws.{View, isConstant, isCopy, isDifference, isCall, isGoto, isReturn, isBranch, isRaise, isRefused, view}
+use Rattle.procedure_operations.specs.ViewLaws.{View, isConstant, isCopy, isDifference, isCall, isGoto, isReturn, isBranch, isRaise, isRefused, view}
 use Rattle.procedure_layout.specs.WalkLaws.{block-law}
 
 pub data ReadBlock (s : List ℕ) : ℕ → Block → ℕ → Type 0 where

@@ -5,9 +5,9 @@ use lib.ListN.{length, take, drop}
 use Rattle.semantics.specs.Program.{Block, constant, copy, difference, call, goto, return, branch, raise, Labelled, Function, Program}
 use Rattle.parsing.specs.Parser.{Parsed, read, refuse, Parser, give, _>>=_, many}
 use Rattle.parsing.specs.Fields.{cut, byte, marked, version, count, ended}
-use Rattle.procedure_layout.specs.declared.operation.Operation.{Operation}
-use Rattle.procedure_layout.specs.declared.operation.Operation.the-variants.{Constant, Copy, Difference, Call, Goto, Return, Branch, Raise, Refused}
-use Rattle.procedure_layout.specs.Operation.{operationAt}
+use Rattle.procedure_operations.specs.declared.operation.Operation.{Operation}
+use Rattle.procedure_operations.specs.declared.operation.Operation.the-variants.{Constant, Copy, Difference, Call, Goto, Return, Branch, Raise, Refused}
+use Rattle.procedure_operations.specs.Operation.{operationAt}
 
 -- The bytes `SPF`.
 abbrev pub spf : List ℕ

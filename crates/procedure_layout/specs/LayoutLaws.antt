@@ -9,15 +9,15 @@ use Rattle.parsing.specs.declared.Scan.the-variants.{Past, Stopped}
 use Rattle.parsing.specs.declared.Count.the-variants.{Is, Outside}
 use Rattle.parsing.specs.Parser.{Parsed, read, refuse, andThen, many, pastOf}
 use Rattle.parsing.specs.Fields.{cut, byte, marked, version, count, counted, ended}
-use Rattle.parsing.specs.ParserLaws.{impossible, past-read, past-refuse, byte-in, byte-cut, read-count, count-is, count-outside, both}
-use Rattle.parsing.specs.WroteLaws.{wrote-marked, wrote-version}
+use Rattle.parsing.specs.ParserLaws.{impossible, past-read, past-refuse, byte-in, byte-cut, read-count, count-is, count-outside, sequence}
+use Rattle.parsing.specs.BytesAtLaws.{bytes-at-marked, bytes-at-version}
 use Rattle.semantics.specs.Program.{Block, Labelled, Function}
-use Rattle.procedure_layout.specs.declared.operation.Operation.{Operation}
+use Rattle.procedure_operations.specs.declared.operation.Operation.{Operation}
 use Rattle.procedure_layout.specs.declared.layout.After.the-variants.{Onward, Ended, Halted}
-use Rattle.procedure_layout.specs.Operation.{operationAt}
+use Rattle.procedure_operations.specs.Operation.{operationAt}
 use Rattle.procedure_layout.specs.Layout.{spf, blockFrom, before, block, labelled, Heading, heading, function, program}
 use Rattle.procedure_layout.specs.After.{afterOf, blocksOf, endOf}
-use Rattle.procedure_layout.specs.ViewLaws.{View, isConstant, isCopy, isDifference, isCall, isGoto, isReturn, isBranch, isRaise, isRefused, view}
+use Rattle.procedure_operations.specs.ViewLaws.{View, isConstant, isCopy, isDifference, isCall, isGoto, isReturn, isBranch, isRaise, isRefused, view}
 use Rattle.procedure_layout.specs.WalkLaws.{block-law}
 
 past-before : (o : Block → Block) (x : Parsed Block) → pastOf (before o x) ≡ pastOf x
@@ -128,9 +128,9 @@ pub record HeadingAt (s : List ℕ) (at : ℕ) (h : Heading) : Type 0 where
   pub paramsAre : h .params ≡ getD s at 0
   pub localsAre : h .locals ≡ getD s (at + 1) 0
   pub blocksAre : h .blocks ≡ getD s (at + 2) 0
-  pub fewParams : h .params ≤ 8
-  pub fewLocals : h .locals ≤ 24
-  pub fewBlocks : h .blocks ≤ 63
+  pub paramsBound : h .params ≤ 8
+  pub localsBound : h .locals ≤ 24
+  pub blocksBound : h .blocks ≤ 63
 
 pub count-inside : (low high : ℕ) (s : List ℕ) (at n : ℕ) → counted (count low high s at) ≡ Is n → at < length s
 count-inside low high s at n e = read-count low high s at (count-is low high s at e) .byte .inside
@@ -138,9 +138,9 @@ count-inside low high s at n e = read-count low high s at (count-is low high s a
 pub read-heading : (s : List ℕ) (at : ℕ) (h : Heading) (next : ℕ) → heading s at ≡ read h next → HeadingAt s at h × (next ≡ at + 3)
 unfolding heading
 read-heading s at h next e =
-    let a = both (count 0 8 s at) (λ p m. andThen (count 0 24 s m) (λ l m₂. andThen (count 0 63 s m₂) (λ n m₃. read (record { params = p; locals = l; blocks = n }) m₃))) e in
-    let b = both (count 0 24 s (a .middle)) (λ l m₂. andThen (count 0 63 s m₂) (λ n m₃. read (record { params = a .first; locals = l; blocks = n }) m₃)) (a .follows) in
-    let c = both (count 0 63 s (b .middle)) (λ n m₃. read (record { params = a .first; locals = b .first; blocks = n }) m₃) (b .follows) in
+    let a = sequence (count 0 8 s at) (λ p m. andThen (count 0 24 s m) (λ l m₂. andThen (count 0 63 s m₂) (λ n m₃. read (record { params = p; locals = l; blocks = n }) m₃))) e in
+    let b = sequence (count 0 24 s (a .middle)) (λ l m₂. andThen (count 0 63 s m₂) (λ n m₃. read (record { params = a .first; locals = l; blocks = n }) m₃)) (a .follows) in
+    let c = sequence (count 0 63 s (b .middle)) (λ n m₃. read (record { params = a .first; locals = b .first; blocks = n }) m₃) (b .follows) in
     let p = read-count 0 8 s at (a .reads) in
     let l = read-count 0 24 s (a .middle) (b .reads) in
     let n = read-count 0 63 s (b .middle) (c .reads) in
@@ -156,7 +156,7 @@ read-heading s at h next e =
     go : {x y z : ℕ} → record { params = x; locals = y; blocks = z } ≡ h → x ≡ getD s at 0 → y ≡ getD s (at + 1) 0 → z ≡ getD s (at + 2) 0
         → x ≤ 8 → y ≤ 24 → z ≤ 63 → at + 3 ≤ length s → next ≡ at + 3 → HeadingAt s at h × (next ≡ at + 3)
     go e x y z a b c i n =
-        rw (← e) (record { inside = i; paramsAre = x; localsAre = y; blocksAre = z; fewParams = a; fewLocals = b; fewBlocks = c }, n)
+        rw (← e) (record { inside = i; paramsAre = x; localsAre = y; blocksAre = z; paramsBound = a; localsBound = b; blocksBound = c }, n)
 
 pub record HeadingIs (s : List ℕ) (at n : ℕ) : Type 0 where
   pub heading : Heading
@@ -215,7 +215,7 @@ module _ (s : List ℕ) where
 
   module _ (a : ℕ) (mark : pastOf (marked spf s 0) ≡ Past a) where
     mark-is : (x : Parsed (Unit {0})) → marked spf s 0 ≡ x → pastOf x ≡ Past a → x ≡ read tt 3
-    mark-is (read tt m) w f = ap (read tt) (wrote-marked s spf 0 w .past)
+    mark-is (read tt m) w f = ap (read tt) (bytes-at-marked s spf 0 w .past)
     mark-is (refuse r) w f = impossible (cc)
 
     after-mark : marked spf s 0 ≡ read tt 3
@@ -227,7 +227,7 @@ module _ (s : List ℕ) where
 
     module _ (b : ℕ) (versioned : pastOf (version s 3) ≡ Past b) where
       version-is : (x : Parsed (Unit {0})) → version s 3 ≡ x → pastOf x ≡ Past b → x ≡ read tt 5
-      version-is (read tt m) w f = ap (read tt) (wrote-version s 3 w .past)
+      version-is (read tt m) w f = ap (read tt) (bytes-at-version s 3 w .past)
       version-is (refuse r) w f = impossible (cc)
 
       after-version : version s 3 ≡ read tt 5

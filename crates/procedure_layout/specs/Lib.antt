@@ -1,10 +1,8 @@
--- The layout of procedure files. Definitions, in reading order: Operation, Layout, Rest, After. Laws: the others.
-pub mod Operation
+-- The layout of procedure files. Definitions, in reading order.
 pub mod Layout
 pub mod Rest
 pub mod After
-pub mod OperationLaws
-pub mod ViewLaws
+-- Laws.
 pub mod WalkLaws
 pub mod LayoutLaws
 pub mod BlockLaws

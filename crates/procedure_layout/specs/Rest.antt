@@ -3,8 +3,8 @@
 use Prim.Native.Nat.{ℕ}
 use mathlib.Core.List.{List}
 use Rattle.semantics.specs.Program.{Block, constant, copy, difference, call, goto, return, branch, raise}
-use Rattle.procedure_layout.specs.declared.operation.Operation.{Operation}
-use Rattle.procedure_layout.specs.declared.operation.Operation.the-variants.{Constant, Copy, Difference, Call, Goto, Return, Branch, Raise, Refused}
+use Rattle.procedure_operations.specs.declared.operation.Operation.{Operation}
+use Rattle.procedure_operations.specs.declared.operation.Operation.the-variants.{Constant, Copy, Difference, Call, Goto, Return, Branch, Raise, Refused}
 use Rattle.procedure_layout.specs.Layout.{walk, argumentsAt}
 
 abbrev pub restFrom : List ℕ → ℕ → Operation → (ℕ → Block) → Block

@@ -7,13 +7,13 @@ use lib.ListN.{length, getD}
 use Rattle.parsing.specs.Fields.{cut, valueAt}
 use Rattle.semantics.specs.Program.{Block, constant, copy, difference, call, raise}
 use Rattle.parsing.specs.Parser.{Parsed, read, refuse}
-use Rattle.procedure_layout.specs.declared.operation.Operation.{Operation}
-use Rattle.procedure_layout.specs.declared.operation.Operation.the-variants.{Refused}
-use Rattle.procedure_layout.specs.Operation.{operationAt}
+use Rattle.procedure_operations.specs.declared.operation.Operation.{Operation}
+use Rattle.procedure_operations.specs.declared.operation.Operation.the-variants.{Refused}
+use Rattle.procedure_operations.specs.Operation.{operationAt}
 use Rattle.procedure_layout.specs.Layout.{walkN, walk, blockFrom, before, argumentsAt, block}
 use Rattle.procedure_layout.specs.Rest.{restFrom, restAt}
-use Rattle.procedure_layout.specs.OperationLaws.{operation-past}
-use Rattle.procedure_layout.specs.ViewLaws.{View, isConstant, isCopy, isDifference, isCall, isGoto, isReturn, isBranch, isRaise, isRefused, view}
+use Rattle.procedure_operations.specs.OperationLaws.{operation-past}
+use Rattle.procedure_operations.specs.ViewLaws.{View, isConstant, isCopy, isDifference, isCall, isGoto, isReturn, isBranch, isRaise, isRefused, view}
 
 -- An operation makes of what follows it nothing but what it makes of the walk from its own end.
 pub record Local (s : List ℕ) {A : Type 0} (step : ℕ → Operation → (ℕ → A) → A) (stop : A) : Type 0 where

@@ -1,9 +1,9 @@
 // The layout of a file: the refusals 1 to 6.
-use crate::operation;
-use crate::operation::Operation;
 use parsing::Count;
 use parsing::Refusal;
 use parsing::Scan;
+use procedure_operations::operation;
+use procedure_operations::operation::Operation;
 ghost use mathlib.Core.Path.{_≡_};
 ghost use Rattle.parsing.specs.Parser.{pastOf, many};
 ghost use Rattle.procedure_layout.specs.Layout.{block, labelled, heading, function, program};

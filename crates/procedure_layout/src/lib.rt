@@ -1,3 +1,2 @@
-// The layout of procedure files (`SPF`): the reader of operations, the ends of blocks and functions, the refusals 1 to 6.
+// The layout of procedure files (`SPF`): the ends of blocks and functions, the refusals 1 to 6.
 pub mod layout;
-pub mod operation;

@@ -14,23 +14,23 @@ use Rattle.parsing.specs.declared.Checked.the-variants.{Accepted}
 use Rattle.parsing.specs.ParserLaws.{impossible}
 use Rattle.parsing.specs.Parser.{Verdict, accepted, refused, orElse, verdictOf}
 use Rattle.semantics.specs.Program.{Block, call}
-use Rattle.procedure_layout.specs.declared.operation.Operation.{Operation}
-use Rattle.procedure_layout.specs.declared.operation.Operation.the-variants.{Constant, Copy, Difference, Call, Goto, Return, Branch, Raise, Refused}
+use Rattle.procedure_operations.specs.declared.operation.Operation.{Operation}
+use Rattle.procedure_operations.specs.declared.operation.Operation.the-variants.{Constant, Copy, Difference, Call, Goto, Return, Branch, Raise, Refused}
 use Rattle.procedure_layout.specs.declared.layout.After.{After}
 use Rattle.procedure_layout.specs.declared.layout.After.the-variants.{Onward, Ended, Halted}
 use Rattle.procedure_names.specs.declared.names.FunctionNumber.{FunctionNumber}
 use Rattle.procedure_names.specs.declared.names.VariableNumber.{VariableNumber}
 use Rattle.procedure_names.specs.declared.names.FunctionFound.the-variants.{Function, NoFunction}
 use Rattle.procedure_names.specs.declared.names.VariableFound.the-variants.{Variable, NoVariable}
-use Rattle.procedure_layout.specs.Operation.{operationAt}
+use Rattle.procedure_operations.specs.Operation.{operationAt}
 use Rattle.procedure_layout.specs.Layout.{argumentsAt}
 use Rattle.procedure_layout.specs.Rest.{restFrom, restAt}
 use Rattle.procedure_layout.specs.After.{afterOf}
 use Rattle.procedure_names.specs.Names.{Name, variable, label, handler, function, arity, arguments, blockNames, firstWrong}
 use Rattle.procedure_names.specs.Numbers.{functionFound, variableFound}
 use Rattle.procedure_names.specs.OperationNames.{operationNames}
-use Rattle.procedure_layout.specs.OperationLaws.{operation-past}
-use Rattle.procedure_layout.specs.ViewLaws.{View, isConstant, isCopy, isDifference, isCall, isGoto, isReturn, isBranch, isRaise, isRefused, view}
+use Rattle.procedure_operations.specs.OperationLaws.{operation-past}
+use Rattle.procedure_operations.specs.ViewLaws.{View, isConstant, isCopy, isDifference, isCall, isGoto, isReturn, isBranch, isRaise, isRefused, view}
 use Rattle.procedure_layout.specs.WalkLaws.{rest-law}
 use Rattle.procedure_names.specs.NamesLaws.{first-append}
 
@@ -115,8 +115,8 @@ join a b u v w e p q = e ∙ ap₂ orElse p q ∙ sym (first-append a b)
 
 -- The arguments of a call, from the i-th on.
 module _ (s : List ℕ) (v at n : ℕ) (room : at + 4 + n ≤ length s) where
-  long : length (argumentsAt s at n) ≡ n
-  long = let l = length-drop (at + 4) s in length-take-le n (drop (at + 4) s) (omega arith)
+  argumentsLength : length (argumentsAt s at n) ≡ n
+  argumentsLength = let l = length-drop (at + 4) s in length-take-le n (drop (at + 4) s) (omega arith)
 
   pub argument-is : (i : ℕ) → i < n → getD (argumentsAt s at n) i 0 ≡ getD s (at + 4 + i) 0
   argument-is i h = getD-take n (drop (at + 4) s) i 0 h ∙ getD-drop (at + 4) s i 0
@@ -130,7 +130,7 @@ module _ (s : List ℕ) (v at n : ℕ) (room : at + 4 + n ≤ length s) where
         let i = place - (at + 4) in
         let p : suc i ≡ place + 1 - (at + 4) = omega arith in
         let q : at + 4 + i ≡ place = omega arith in
-        drop-cons (argumentsAt s at n) i 0 (omega (arith, long))
+        drop-cons (argumentsAt s at n) i 0 (omega (arith, argumentsLength))
         ∙ ap₂ _∷_ (argument-is i (omega arith) ∙ ap (λ (k : ℕ). getD s k 0) q) (ap (λ (k : ℕ). drop k (argumentsAt s at n)) p)
 
     pub argument-on : getD s place 0 < v → argumentsLeft (place + 1) ≡ argumentsLeft place
@@ -140,7 +140,7 @@ module _ (s : List ℕ) (v at n : ℕ) (room : at + 4 + n ≤ length s) where
     argument-wrong h = rw (first, le-ltb (getD s place 0) v h)
 
   pub arguments-done : (place : ℕ) → at + 4 + n ≤ place → accepted ≡ argumentsLeft place
-  arguments-done place h = rw (drop-of-length-le (argumentsAt s at n) {i = place - (at + 4)} (omega (arith, long)))
+  arguments-done place h = rw (drop-of-length-le (argumentsAt s at n) {i = place - (at + 4)} (omega (arith, argumentsLength)))
 
   pub arguments-start : argumentsLeft (at + 4) ≡ firstWrong (arguments v (at + 4) (argumentsAt s at n))
   arguments-start =
@@ -202,7 +202,7 @@ module _ (ps : List ℕ) (v n : ℕ) (s : List ℕ) where
       go (isCall a h) e =
           let k = getD s (at + 3) 0 in
           let g = getD s (at + 2) 0 in
-          rw (long s v at k h)
+          rw (argumentsLength s v at k h)
           (step (variable v (at + 1) (getD s (at + 1) 0) ∷ function ps (at + 2) g ∷ arity ps (at + 3) g k ∷ arguments v (at + 4) (argumentsAt s at k)) (at + 4 + k) (cc))
       go (isGoto a h) e = impossible (cc)
       go (isReturn a h) e = impossible (cc)

@@ -1,8 +1,8 @@
 -- The names of the one operation at an offset, in reading order.
 use Prim.Native.Nat.{ℕ, _+_}
 use mathlib.Core.List.{List, [], _∷_}
-use Rattle.procedure_layout.specs.declared.operation.Operation.{Operation}
-use Rattle.procedure_layout.specs.declared.operation.Operation.the-variants.{Constant, Copy, Difference, Call, Goto, Return, Branch, Raise, Refused}
+use Rattle.procedure_operations.specs.declared.operation.Operation.{Operation}
+use Rattle.procedure_operations.specs.declared.operation.Operation.the-variants.{Constant, Copy, Difference, Call, Goto, Return, Branch, Raise, Refused}
 use Rattle.procedure_layout.specs.Layout.{argumentsAt}
 use Rattle.procedure_names.specs.Names.{Name, variable, label, function, arity, arguments}
 

@@ -3,19 +3,19 @@ use parsing::Checked;
 use parsing::Refusal;
 use procedure_layout::layout;
 use procedure_layout::layout::After;
-use procedure_layout::operation;
-use procedure_layout::operation::Operation;
+use procedure_operations::operation;
+use procedure_operations::operation::Operation;
 ghost use mathlib.Core.Path.{_≡_};
 ghost use mathlib.Core.List.{[], _∷_};
 ghost use Prim.Native.Nat.{_+_, _≤_, _<_};
 ghost use lib.ListN.{length, getD};
 ghost use Rattle.parsing.specs.Parser.{orElse, verdictOf};
 ghost use Rattle.procedure_layout.specs.Layout.{argumentsAt};
-ghost use Rattle.procedure_layout.specs.Operation.{operationAt};
+ghost use Rattle.procedure_operations.specs.Operation.{operationAt};
 ghost use Rattle.procedure_layout.specs.Rest.{restAt};
 ghost use Rattle.procedure_names.specs.Names.{variable, label, function, arity, arguments, blockNames, firstWrong};
 ghost use Rattle.procedure_names.specs.OperationNames.{operationNames};
-ghost use Rattle.procedure_layout.specs.declared.operation.Operation.the-variants.{Call};
+ghost use Rattle.procedure_operations.specs.declared.operation.Operation.the-variants.{Call};
 ghost use Rattle.procedure_names.specs.Numbers.{variableFound, functionFound};
 
 // "Function numbers and variable numbers are two sets with nothing in common": made only after their range tests.

@@ -14,10 +14,10 @@ use Rattle.parsing.specs.declared.Refusal.{Refusal}
 use Rattle.parsing.specs.declared.Checked.{Checked}
 use Rattle.parsing.specs.declared.Checked.the-variants.{Accepted, Refused}
 use Rattle.semantics.specs.Run.{Stop}
-use Rattle.text.specs.declared.Ended.{Ended}
+use Rattle.text.specs.declared.Stopped.{Stopped}
 use Rattle.memory.specs.LayLaws.{length-lay}
-use Rattle.text.specs.Wrote.{Wrote}
-use Rattle.text.specs.Text.{bothText, refusedText, noHeaderText, endedAs}
+use Rattle.text.specs.WroteText.{WroteText}
+use Rattle.text.specs.Text.{bothText, refusedText, noHeaderText, stoppedAs}
 use Rattle.translator.specs.declared.Translated.{Translated}
 use Rattle.translator.specs.declared.Translated.the-variants as Translator
 use Rattle.translator.specs.Translated.{Outcome, written, turnedDown, outcomeOf, answerOf}
@@ -31,37 +31,37 @@ use Rattle.report.specs.Report.{pairOf, wordOf, countOf, argumentAt, arg
 
 -- After i of n arguments.
 pub record Filled (s : List ℕ) (n i : ℕ) (a₀ a : List ℤ) : Type 0 where
-  pub few : i ≤ n
+  pub counterBound : i ≤ n
   pub front : take i a ≡ argumentsOf s i
-  pub long : length a ≡ length a₀
+  pub sameLength : length a ≡ length a₀
 
 pub filled-none : (s : List ℕ) (n : ℕ) (a : List ℤ) → Filled s n 0 a a
-filled-none s n a = record { few = omega arith; front = refl; long = refl }
+filled-none s n a = record { counterBound = omega arith; front = refl; sameLength = refl }
 
 pub filled-more : (s : List ℕ) (n i : ℕ) (a₀ a : List ℤ) {v w : ℤ} → Filled s n i a₀ a → i < n → n ≤ length a₀ → v ≡ argumentAt s i → w ≡ v → Filled s n (i + 1) a₀ (set a i w)
 filled-more s n i a₀ a {v} {w} F h l e q =
-    let k : length a ≡ length a₀ = F .long in
+    let k : length a ≡ length a₀ = F .sameLength in
     let j : i + 1 ≡ suc i = omega arith in
     record {
-      few = omega arith;
+      counterBound = omega arith;
       front =
           ap (λ (m : ℕ). take m (set a i w)) j
           ∙ (take-suc-set a i w (omega arith)
           ∙ (ap (λ (x : List ℤ). x ++ (w ∷ [])) (F .front)
           ∙ (ap (λ (x : ℤ). argumentsOf s i ++ (x ∷ [])) (q ∙ e) ∙ ap (λ (m : ℕ). argumentsOf s m) (sym j))));
-      long = length-set a i w ∙ F .long;
+      sameLength = length-set a i w ∙ F .sameLength;
     }
 
 pub filled-all : (s : List ℕ) (n i : ℕ) (a₀ a : List ℤ) → Filled s n i a₀ a → n ≤ i → take n a ≡ argumentsOf s n
 filled-all s n i a₀ a F h =
-    let l : i ≤ n = F .few in
+    let l : i ≤ n = F .counterBound in
     let e : i ≡ n = omega arith in
     subst (λ (k : ℕ). take k a ≡ argumentsOf s k) e (F .front)
 
-pub wrote-as : {at r : ℕ} {v w d d′ : List ℕ} → v ≡ w → Wrote at v d r d′ → Wrote at w d r d′
-wrote-as {at} {r} {v} {w} {d} {d′} e W = subst (λ (x : List ℕ). Wrote at x d r d′) e W
+pub wrote-as : {at r : ℕ} {v w d d′ : List ℕ} → v ≡ w → WroteText at v d r d′ → WroteText at w d r d′
+wrote-as {at} {r} {v} {w} {d} {d′} e W = subst (λ (x : List ℕ). WroteText at x d r d′) e W
 
-pub wrote-within : {at r : ℕ} {w d d′ : List ℕ} → Wrote at w d r d′ → r ≤ length d′
+pub wrote-within : {at r : ℕ} {w d d′ : List ℕ} → WroteText at w d r d′ → r ≤ length d′
 wrote-within {at} {r} {w} {d} {d′} W =
     let p : r ≡ at + length w = W .past in
     let i : r ≤ length d = W .within in

@@ -3,7 +3,7 @@ use agreement::Sides;
 use agreement::side_by_side;
 use parsing::Checked;
 use parsing::Refusal;
-use text::Ended;
+use text::Stopped;
 use text::write_both;
 use text::write_no_header;
 use text::write_refused;
@@ -12,8 +12,8 @@ use translator::translate;
 ghost use mathlib.Core.Path.{_≡_};
 ghost use Prim.Native.Nat.{_+_, _*_, _≤_, _<_};
 ghost use lib.ListN.{length, take};
-ghost use Rattle.text.specs.Text.{endedAs, refusedText};
-ghost use Rattle.text.specs.Wrote.{Wrote};
+ghost use Rattle.text.specs.Text.{stoppedAs, refusedText};
+ghost use Rattle.text.specs.WroteText.{WroteText};
 ghost use Rattle.bench.specs.Published as Bench;
 ghost use Rattle.controller.specs.Published as Controller;
 ghost use Rattle.agreement.specs.Sides.{sidesTold};
@@ -54,32 +54,32 @@ fn fill(input: &[u8], n: usize, arguments: &mut [i32])
     }
 }
 
-fn bench_ended(s: bench::machine::Stopped) -> Ended
-    ensures { λ r. ⌜ endedAs r ≡ Bench.stoppedAs s ⌝ }
+fn bench_stopped(s: bench::machine::Stopped) -> Stopped
+    ensures { λ r. ⌜ stoppedAs r ≡ Bench.stoppedAs s ⌝ }
 {
     match s {
-        bench::machine::Stopped::Value(z) => Ended::Value(z),
-        bench::machine::Stopped::Uncaught => Ended::Uncaught,
-        bench::machine::Stopped::Spent => Ended::Spent,
-        bench::machine::Stopped::Deep => Ended::Deep,
+        bench::machine::Stopped::Value(z) => Stopped::Value(z),
+        bench::machine::Stopped::Uncaught => Stopped::Uncaught,
+        bench::machine::Stopped::Spent => Stopped::Spent,
+        bench::machine::Stopped::Deep => Stopped::Deep,
     }
 }
 
-fn controller_ended(s: controller::machine::Stopped) -> Ended
-    ensures { λ r. ⌜ endedAs r ≡ Controller.stoppedAs s ⌝ }
+fn controller_stopped(s: controller::machine::Stopped) -> Stopped
+    ensures { λ r. ⌜ stoppedAs r ≡ Controller.stoppedAs s ⌝ }
 {
     match s {
-        controller::machine::Stopped::Value(z) => Ended::Value(z),
-        controller::machine::Stopped::Uncaught => Ended::Uncaught,
-        controller::machine::Stopped::Spent => Ended::Spent,
-        controller::machine::Stopped::Deep => Ended::Deep,
+        controller::machine::Stopped::Value(z) => Stopped::Value(z),
+        controller::machine::Stopped::Uncaught => Stopped::Uncaught,
+        controller::machine::Stopped::Spent => Stopped::Spent,
+        controller::machine::Stopped::Deep => Stopped::Deep,
     }
 }
 
 // "A refusal prints only `refused`, number, `at`, place."
 fn write_refusal(out: &mut [u8], r: Refusal) -> usize
     requires { ⌜ 256 ≤ length (now out) ⌝ }
-    ensures { λ x. ⌜ Wrote 0 (refusedText (r .number) (r .place)) (now (out .entry)) x (now (out .exit)) ⌝ }
+    ensures { λ x. ⌜ WroteText 0 (refusedText (r .number) (r .place)) (now (out .entry)) x (now (out .exit)) ⌝ }
 {
     write_refused(out, r.number as u64, r.place as u64)
 }
@@ -87,7 +87,7 @@ fn write_refusal(out: &mut [u8], r: Refusal) -> usize
 // The three lines of both runs, or the refusal.
 fn write_sides(out: &mut [u8], a: Sides) -> usize
     requires { ⌜ 256 ≤ length (now out) ⌝ }
-    ensures { λ r. ⌜ Wrote 0 (sidesText (sidesTold a)) (now (out .entry)) r (now (out .exit)) ⌝ }
+    ensures { λ r. ⌜ WroteText 0 (sidesText (sidesTold a)) (now (out .entry)) r (now (out .exit)) ⌝ }
 {
     let verdict = a.verdict;
     match verdict {
@@ -97,9 +97,16 @@ fn write_sides(out: &mut [u8], a: Sides) -> usize
             let c = a.controller;
             let bstopped = b.stopped;
             let cstopped = c.stopped;
-            let bended = bench_ended(bstopped);
-            let cended = controller_ended(cstopped);
-            write_both(out, a.target as u64, bended, b.steps, cended, c.steps)
+            let bench_stop = bench_stopped(bstopped);
+            let controller_stop = controller_stopped(cstopped);
+            write_both(
+                out,
+                a.target as u64,
+                bench_stop,
+                b.steps,
+                controller_stop,
+                c.steps,
+            )
         }
     }
 }
@@ -107,7 +114,7 @@ fn write_sides(out: &mut [u8], a: Sides) -> usize
 // A file: at most 2,048 bytes, translated into 8,192, and run with 48 words lent for each of 256 frames.
 fn write_file(out: &mut [u8], file: &[u8], arguments: &[i32], depth: usize, budget: u32) -> usize
     requires { ⌜ 256 ≤ length (now out) ⌝ }
-    ensures { λ r. ⌜ Wrote 0 (fileText (now (file .entry)) (now (arguments .entry)) depth budget) (now (out .entry)) r (now (out .exit)) ⌝ }
+    ensures { λ r. ⌜ WroteText 0 (fileText (now (file .entry)) (now (arguments .entry)) depth budget) (now (out .entry)) r (now (out .exit)) ⌝ }
 {
     if 2048 < file.len() {
         return write_refused(out, 15, 2048);
@@ -135,7 +142,7 @@ fn write_file(out: &mut [u8], file: &[u8], arguments: &[i32], depth: usize, budg
 
 // The text of `both` for an input, written to the front of `out`; the answer is its length.
 pub fn report(input: &[u8], out: &mut [u8; 256]) -> usize
-    ensures text { λ r. ⌜ Wrote 0 (textOf (now (input .entry))) (now (out .entry)) r (now (out .exit)) ⌝ }
+    ensures text { λ r. ⌜ WroteText 0 (textOf (now (input .entry))) (now (out .entry)) r (now (out .exit)) ⌝ }
     ensures within { λ r. ⌜ r ≤ length (now (out .exit)) ⌝ }
 {
     if input.len() < 1 {

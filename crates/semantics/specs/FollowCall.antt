@@ -15,7 +15,7 @@ use Rattle.semantics.specs.Run.{Outcome, next, tooDeep}
 use Rattle.semantics.specs.Bench.{Frame, frame, State, state, given, valuesOf, begun, within, step}
 use Rattle.semantics.specs.WellFormed.{All, WellFormed, WellFormedPlace, WellFormedFrame, WellFormedState}
 use Rattle.semantics.specs.Code.{Slot, Expr, jump, Target}
-use Rattle.semantics.specs.Controller.{unbound, whole, continuation, handler, Environment, heldAt, put, bind, asContinuation, asHandler, wholesOf, Record, made, doing, parameters, controlStep}
+use Rattle.semantics.specs.Controller.{unbound, whole, continuation, handler, Environment, bindingAt, put, bind, asContinuation, asHandler, wholesOf, Record, closure, control, parameters, controlStep}
 use Rattle.semantics.specs.Translation.{slotOf, code, bindZeros, entryTarget, number}
 use Rattle.semantics.specs.Matching.{newestGuarded, bodyLeft, handlerBody}
 use Rattle.semantics.specs.Statement.{waiting}
@@ -23,7 +23,7 @@ use Rattle.semantics.specs.ListLaws.{at-getD, put-same, put-other, put-e
 use Rattle.semantics.specs.TranslationLaws.{entry-at}
 use Rattle.semantics.specs.MatchingLaws.{slotsOf, recordsOf, matching, length-records, matching-matches}
 use Rattle.semantics.specs.SlotLaws.{given-some, valueOf, held-variable, values-are, wholes-are}
-use Rattle.semantics.specs.Follow.{ControlGoes, Followed, Follows, along, onward, below, function-wellFormed, follow-constant, follow-copy, follow-difference, follow-goto, follow-branch, follow-return, follow-raise}
+use Rattle.semantics.specs.Follow.{ControlGoes, Followed, Follows, by-equal-outcome, onward, below, function-wellFormed, follow-constant, follow-copy, follow-difference, follow-goto, follow-branch, follow-return, follow-raise}
 
 -- ── A function's locals ─────────────────────────────────────────────────────────────────────────
 
@@ -37,38 +37,38 @@ one-longer vs z = let e : length (vs ++ (z ∷ [])) ≡ length vs + 1 = length-a
 
 -- Each local is bound to 0, in order: one step each.
 zeros : (P : Program) (d : ℕ) (k : ℕ) (e : Expr) (m n : ℕ) (vs : List ℤ) (rs : List Record)
-    → ControlGoes P d k (doing (bindZeros (slotOf (length vs)) k e) (parameters m n vs) rs) (doing e (parameters m n (vs ++ replicate k (pos 0))) rs)
+    → ControlGoes P d k (control (bindZeros (slotOf (length vs)) k e) (parameters m n vs) rs) (control e (parameters m n (vs ++ replicate k (pos 0))) rs)
 unfolding controlStep
-zeros P d zero e m n vs rs = ap (λ (l : List ℤ). doing e (parameters m n l) rs) (sym (append-nil vs))
+zeros P d zero e m n vs rs = ap (λ (l : List ℤ). control e (parameters m n l) rs) (sym (append-nil vs))
 zeros P d (suc k) e m n vs rs = (
-  doing (bindZeros (slotOf (length (vs ++ (pos 0 ∷ [])))) k e) (parameters m n (vs ++ (pos 0 ∷ []))) rs,
-  ap (λ (env : Environment). next (doing (bindZeros (slotOf (suc (length vs))) k e) env rs)) (bind-end m n vs (pos 0))
-      ∙ ap (λ (i : ℕ). next (doing (bindZeros (slotOf i) k e) (parameters m n (vs ++ (pos 0 ∷ []))) rs)) (sym (one-longer vs (pos 0))),
-  subst (λ (l : List ℤ). ControlGoes P d k (doing (bindZeros (slotOf (length (vs ++ (pos 0 ∷ [])))) k e) (parameters m n (vs ++ (pos 0 ∷ []))) rs) (doing e (parameters m n l) rs))
+  control (bindZeros (slotOf (length (vs ++ (pos 0 ∷ [])))) k e) (parameters m n (vs ++ (pos 0 ∷ []))) rs,
+  ap (λ (env : Environment). next (control (bindZeros (slotOf (suc (length vs))) k e) env rs)) (bind-end m n vs (pos 0))
+      ∙ ap (λ (i : ℕ). next (control (bindZeros (slotOf i) k e) (parameters m n (vs ++ (pos 0 ∷ []))) rs)) (sym (one-longer vs (pos 0))),
+  subst (λ (l : List ℤ). ControlGoes P d k (control (bindZeros (slotOf (length (vs ++ (pos 0 ∷ [])))) k e) (parameters m n (vs ++ (pos 0 ∷ []))) rs) (control e (parameters m n l) rs))
       (append-snoc vs (pos 0) (replicate k (pos 0))) (zeros P d k e m n (vs ++ (pos 0 ∷ [])) rs),
 )
 
 -- From the entry of function g with its arguments to its first operation.
 pub begins : (P : Program) (d g : ℕ) (m n : ℕ) (args : List ℤ) (rs : List Record) → length args ≡ functionOf P g .params
-    → ControlGoes P d (functionOf P g .locals) (doing (entryTarget (number P) (number P g) (functionOf P g) .body) (parameters m n args) rs)
-    (doing (bodyLeft P g 0 (functionOf P g .entry)) (parameters m n (args ++ replicate (functionOf P g .locals) (pos 0))) rs)
+    → ControlGoes P d (functionOf P g .locals) (control (entryTarget (number P) (number P g) (functionOf P g) .body) (parameters m n args) rs)
+    (control (bodyLeft P g 0 (functionOf P g .entry)) (parameters m n (args ++ replicate (functionOf P g .locals) (pos 0))) rs)
 begins P d g m n args rs q =
-    subst (λ (p : ℕ). ControlGoes P d (functionOf P g .locals) (doing (bindZeros (slotOf p) (functionOf P g .locals) (bodyLeft P g 0 (functionOf P g .entry))) (parameters m n args) rs) (doing (bodyLeft P g 0 (functionOf P g .entry)) (parameters m n (args ++ replicate (functionOf P g .locals) (pos 0))) rs)) q
+    subst (λ (p : ℕ). ControlGoes P d (functionOf P g .locals) (control (bindZeros (slotOf p) (functionOf P g .locals) (bodyLeft P g 0 (functionOf P g .entry))) (parameters m n args) rs) (control (bodyLeft P g 0 (functionOf P g .entry)) (parameters m n (args ++ replicate (functionOf P g .locals) (pos 0))) rs)) q
     (zeros P d (functionOf P g .locals) (bodyLeft P g 0 (functionOf P g .entry)) m n args rs)
 
 -- ── The jump to a function, once the record is made ─────────────────────────────────────────────
 
-jumps-to : (P : Program) (d g : ℕ) (k h : Slot) (ys : List Variable) (vs : List ℤ) (env : Environment) (rs : List Record) (m n : ℕ) → g < length P → heldAt env k ≡ continuation m → heldAt env h ≡ handler n
-    → ((y : ℕ) → y < length vs → heldAt env (slotOf y) ≡ whole (valueOf vs y)) → All (λ y. y < length vs) ys → length ys ≡ functionOf P g .params
-    → ControlGoes P d (suc (functionOf P g .locals)) (doing (jump (number P g) k h (map slotOf ys)) env rs)
-    (doing (bodyLeft P g 0 (functionOf P g .entry)) (parameters m n (map (valueOf vs) ys ++ replicate (functionOf P g .locals) (pos 0))) rs)
+jumps-to : (P : Program) (d g : ℕ) (k h : Slot) (ys : List Variable) (vs : List ℤ) (env : Environment) (rs : List Record) (m n : ℕ) → g < length P → bindingAt env k ≡ continuation m → bindingAt env h ≡ handler n
+    → ((y : ℕ) → y < length vs → bindingAt env (slotOf y) ≡ whole (valueOf vs y)) → All (λ y. y < length vs) ys → length ys ≡ functionOf P g .params
+    → ControlGoes P d (suc (functionOf P g .locals)) (control (jump (number P g) k h (map slotOf ys)) env rs)
+    (control (bodyLeft P g 0 (functionOf P g .entry)) (parameters m n (map (valueOf vs) ys ++ replicate (functionOf P g .locals) (pos 0))) rs)
 unfolding controlStep
 jumps-to P d g k h ys vs env rs m n lg ek eh ev ws q = (
-  doing (entryTarget (number P) (number P g) (functionOf P g) .body) (parameters m n (map (valueOf vs) ys)) rs,
-  given-some (λ (D : Target). given (asContinuation (heldAt env k)) (λ (i : ℕ). given (asHandler (heldAt env h)) (λ (j : ℕ). given (wholesOf env (map slotOf ys)) (λ (zs : List ℤ). next (doing (D .body) (parameters i j zs) rs))))) (entry-at P g lg)
-      ∙ (given-some (λ (i : ℕ). given (asHandler (heldAt env h)) (λ (j : ℕ). given (wholesOf env (map slotOf ys)) (λ (zs : List ℤ). next (doing (entryTarget (number P) (number P g) (functionOf P g) .body) (parameters i j zs) rs)))) (ap asContinuation ek)
-      ∙ (given-some (λ (j : ℕ). given (wholesOf env (map slotOf ys)) (λ (zs : List ℤ). next (doing (entryTarget (number P) (number P g) (functionOf P g) .body) (parameters m j zs) rs))) (ap asHandler eh)
-      ∙ given-some (λ (zs : List ℤ). next (doing (entryTarget (number P) (number P g) (functionOf P g) .body) (parameters m n zs) rs)) (wholes-are env vs ys ev ws))),
+  control (entryTarget (number P) (number P g) (functionOf P g) .body) (parameters m n (map (valueOf vs) ys)) rs,
+  given-some (λ (D : Target). given (asContinuation (bindingAt env k)) (λ (i : ℕ). given (asHandler (bindingAt env h)) (λ (j : ℕ). given (wholesOf env (map slotOf ys)) (λ (zs : List ℤ). next (control (D .body) (parameters i j zs) rs))))) (entry-at P g lg)
+      ∙ (given-some (λ (i : ℕ). given (asHandler (bindingAt env h)) (λ (j : ℕ). given (wholesOf env (map slotOf ys)) (λ (zs : List ℤ). next (control (entryTarget (number P) (number P g) (functionOf P g) .body) (parameters i j zs) rs)))) (ap asContinuation ek)
+      ∙ (given-some (λ (j : ℕ). given (wholesOf env (map slotOf ys)) (λ (zs : List ℤ). next (control (entryTarget (number P) (number P g) (functionOf P g) .body) (parameters m j zs) rs))) (ap asHandler eh)
+      ∙ given-some (λ (zs : List ℤ). next (control (entryTarget (number P) (number P g) (functionOf P g) .body) (parameters m n zs) rs)) (wholes-are env vs ys ev ws))),
   begins P d g m n (map (valueOf vs) ys) rs (length-map ys (valueOf vs) ∙ q),
 )
 
@@ -93,11 +93,11 @@ module _ (P : Program) (W : WellFormed P) (d : ℕ) (f : FunctionNumber) (x : Va
     made-slots : Environment
     made-slots = bind (slotsOf vs fs) (slotOf (variables (functionOf P f))) (continuation k)
 
-    made-continuation : heldAt made-slots (slotOf (variables (functionOf P f))) ≡ continuation k
+    made-continuation : bindingAt made-slots (slotOf (variables (functionOf P f))) ≡ continuation k
     unfolding made-slots
     made-continuation = put-same unbound (map whole vs) (variables (functionOf P f)) (continuation k)
 
-    made-variable : (y : ℕ) → y < length vs → heldAt made-slots (slotOf y) ≡ whole (valueOf vs y)
+    made-variable : (y : ℕ) → y < length vs → bindingAt made-slots (slotOf y) ≡ whole (valueOf vs y)
     unfolding made-slots
     made-variable y l =
         put-other unbound (map whole vs) (variables (functionOf P f)) y (continuation k) (λ (e : variables (functionOf P f) ≡ y). absurd (omega arith))
@@ -107,17 +107,17 @@ module _ (P : Program) (W : WellFormed P) (d : ℕ) (f : FunctionNumber) (x : Va
     guarded-slots : Environment
     guarded-slots = bind made-slots (slotOf (suc (variables (functionOf P f)))) (handler k)
 
-    guarded-continuation : heldAt guarded-slots (slotOf (variables (functionOf P f))) ≡ continuation k
+    guarded-continuation : bindingAt guarded-slots (slotOf (variables (functionOf P f))) ≡ continuation k
     unfolding guarded-slots
     guarded-continuation =
         put-other unbound made-slots (slotOf (suc (variables (functionOf P f)))) (slotOf (variables (functionOf P f))) (handler k) (λ (e : slotOf (suc (variables (functionOf P f))) ≡ slotOf (variables (functionOf P f))). absurd (omega arith))
         ∙ made-continuation
 
-    guarded-handler : heldAt guarded-slots (slotOf (suc (variables (functionOf P f)))) ≡ handler k
+    guarded-handler : bindingAt guarded-slots (slotOf (suc (variables (functionOf P f)))) ≡ handler k
     unfolding guarded-slots
     guarded-handler = put-same unbound made-slots (slotOf (suc (variables (functionOf P f)))) (handler k)
 
-    guarded-variable : (y : ℕ) → y < length vs → heldAt guarded-slots (slotOf y) ≡ whole (valueOf vs y)
+    guarded-variable : (y : ℕ) → y < length vs → bindingAt guarded-slots (slotOf y) ≡ whole (valueOf vs y)
     unfolding guarded-slots
     guarded-variable y l =
         put-other unbound made-slots (slotOf (suc (variables (functionOf P f)))) (slotOf y) (handler k) (λ (e : slotOf (suc (variables (functionOf P f))) ≡ slotOf y). absurd (omega arith))
@@ -126,21 +126,21 @@ module _ (P : Program) (W : WellFormed P) (d : ℕ) (f : FunctionNumber) (x : Va
   calls : (h : Handler) → WellFormedPlace P f h (call x g ys b) vs → All (λ y. y < length vs) ys → leb d (length fs) ≡ false → Calls h
   unfolding code controlStep callee Calls made-slots guarded-slots
   calls zero w ws e = (
-    doing (jump (number P g) (slotOf (variables (functionOf P f))) 1 (map slotOf ys)) (made-slots (w .variables) (suc (length (recordsOf P fs)))) (made (slotsOf vs fs) (slotOf x) (bodyLeft P f 0 b) none ∷ recordsOf P fs),
-    ap (λ (c : Bool). cond c tooDeep (next (doing (jump (number P g) (slotOf (variables (functionOf P f))) 1 (map slotOf ys)) (made-slots (w .variables) (suc (length (recordsOf P fs)))) (made (slotsOf vs fs) (slotOf x) (bodyLeft P f 0 b) none ∷ recordsOf P fs)))) (counts e),
-    subst (λ (k : ℕ). ControlGoes P d (suc (functionOf P g .locals)) (doing (jump (number P g) (slotOf (variables (functionOf P f))) 1 (map slotOf ys)) (made-slots (w .variables) (suc (length (recordsOf P fs)))) (made (slotsOf vs fs) (slotOf x) (bodyLeft P f 0 b) none ∷ recordsOf P fs))
-        (doing (bodyLeft P g 0 (functionOf P g .entry)) (parameters k (newestGuarded fs) (map (valueOf vs) ys ++ replicate (functionOf P g .locals) (pos 0))) (made (slotsOf vs fs) (slotOf x) (bodyLeft P f 0 b) none ∷ recordsOf P fs)))
+    control (jump (number P g) (slotOf (variables (functionOf P f))) 1 (map slotOf ys)) (made-slots (w .variables) (suc (length (recordsOf P fs)))) (closure (slotsOf vs fs) (slotOf x) (bodyLeft P f 0 b) none ∷ recordsOf P fs),
+    ap (λ (c : Bool). cond c tooDeep (next (control (jump (number P g) (slotOf (variables (functionOf P f))) 1 (map slotOf ys)) (made-slots (w .variables) (suc (length (recordsOf P fs)))) (closure (slotsOf vs fs) (slotOf x) (bodyLeft P f 0 b) none ∷ recordsOf P fs)))) (counts e),
+    subst (λ (k : ℕ). ControlGoes P d (suc (functionOf P g .locals)) (control (jump (number P g) (slotOf (variables (functionOf P f))) 1 (map slotOf ys)) (made-slots (w .variables) (suc (length (recordsOf P fs)))) (closure (slotsOf vs fs) (slotOf x) (bodyLeft P f 0 b) none ∷ recordsOf P fs))
+        (control (bodyLeft P g 0 (functionOf P g .entry)) (parameters k (newestGuarded fs) (map (valueOf vs) ys ++ replicate (functionOf P g .locals) (pos 0))) (closure (slotsOf vs fs) (slotOf x) (bodyLeft P f 0 b) none ∷ recordsOf P fs)))
         (ap suc (length-records P fs))
-        (jumps-to P d g (slotOf (variables (functionOf P f))) 1 ys vs (made-slots (w .variables) (suc (length (recordsOf P fs)))) (made (slotsOf vs fs) (slotOf x) (bodyLeft P f 0 b) none ∷ recordsOf P fs) (suc (length (recordsOf P fs))) (newestGuarded fs)
+        (jumps-to P d g (slotOf (variables (functionOf P f))) 1 ys vs (made-slots (w .variables) (suc (length (recordsOf P fs)))) (closure (slotsOf vs fs) (slotOf x) (bodyLeft P f 0 b) none ∷ recordsOf P fs) (suc (length (recordsOf P fs))) (newestGuarded fs)
         (w .block .1) (made-continuation (w .variables) (suc (length (recordsOf P fs)))) refl (made-variable (w .variables) (suc (length (recordsOf P fs)))) ws (w .block .2)),
   )
   calls (suc l) w ws e = (
-    doing (jump (number P g) (slotOf (variables (functionOf P f))) (slotOf (suc (variables (functionOf P f)))) (map slotOf ys)) (guarded-slots (w .variables) (suc (length (recordsOf P fs)))) (made (slotsOf vs fs) (slotOf x) (bodyLeft P f (suc l) b) (handlerBody P f (suc l)) ∷ recordsOf P fs),
-    ap (λ (c : Bool). cond c tooDeep (next (doing (jump (number P g) (slotOf (variables (functionOf P f))) (slotOf (suc (variables (functionOf P f)))) (map slotOf ys)) (guarded-slots (w .variables) (suc (length (recordsOf P fs)))) (made (slotsOf vs fs) (slotOf x) (bodyLeft P f (suc l) b) (handlerBody P f (suc l)) ∷ recordsOf P fs)))) (counts e),
-    subst (λ (k : ℕ). ControlGoes P d (suc (functionOf P g .locals)) (doing (jump (number P g) (slotOf (variables (functionOf P f))) (slotOf (suc (variables (functionOf P f)))) (map slotOf ys)) (guarded-slots (w .variables) (suc (length (recordsOf P fs)))) (made (slotsOf vs fs) (slotOf x) (bodyLeft P f (suc l) b) (handlerBody P f (suc l)) ∷ recordsOf P fs))
-        (doing (bodyLeft P g 0 (functionOf P g .entry)) (parameters k k (map (valueOf vs) ys ++ replicate (functionOf P g .locals) (pos 0))) (made (slotsOf vs fs) (slotOf x) (bodyLeft P f (suc l) b) (handlerBody P f (suc l)) ∷ recordsOf P fs)))
+    control (jump (number P g) (slotOf (variables (functionOf P f))) (slotOf (suc (variables (functionOf P f)))) (map slotOf ys)) (guarded-slots (w .variables) (suc (length (recordsOf P fs)))) (closure (slotsOf vs fs) (slotOf x) (bodyLeft P f (suc l) b) (handlerBody P f (suc l)) ∷ recordsOf P fs),
+    ap (λ (c : Bool). cond c tooDeep (next (control (jump (number P g) (slotOf (variables (functionOf P f))) (slotOf (suc (variables (functionOf P f)))) (map slotOf ys)) (guarded-slots (w .variables) (suc (length (recordsOf P fs)))) (closure (slotsOf vs fs) (slotOf x) (bodyLeft P f (suc l) b) (handlerBody P f (suc l)) ∷ recordsOf P fs)))) (counts e),
+    subst (λ (k : ℕ). ControlGoes P d (suc (functionOf P g .locals)) (control (jump (number P g) (slotOf (variables (functionOf P f))) (slotOf (suc (variables (functionOf P f)))) (map slotOf ys)) (guarded-slots (w .variables) (suc (length (recordsOf P fs)))) (closure (slotsOf vs fs) (slotOf x) (bodyLeft P f (suc l) b) (handlerBody P f (suc l)) ∷ recordsOf P fs))
+        (control (bodyLeft P g 0 (functionOf P g .entry)) (parameters k k (map (valueOf vs) ys ++ replicate (functionOf P g .locals) (pos 0))) (closure (slotsOf vs fs) (slotOf x) (bodyLeft P f (suc l) b) (handlerBody P f (suc l)) ∷ recordsOf P fs)))
         (ap suc (length-records P fs))
-        (jumps-to P d g (slotOf (variables (functionOf P f))) (slotOf (suc (variables (functionOf P f)))) ys vs (guarded-slots (w .variables) (suc (length (recordsOf P fs)))) (made (slotsOf vs fs) (slotOf x) (bodyLeft P f (suc l) b) (handlerBody P f (suc l)) ∷ recordsOf P fs) (suc (length (recordsOf P fs))) (suc (length (recordsOf P fs)))
+        (jumps-to P d g (slotOf (variables (functionOf P f))) (slotOf (suc (variables (functionOf P f)))) ys vs (guarded-slots (w .variables) (suc (length (recordsOf P fs)))) (closure (slotsOf vs fs) (slotOf x) (bodyLeft P f (suc l) b) (handlerBody P f (suc l)) ∷ recordsOf P fs) (suc (length (recordsOf P fs))) (suc (length (recordsOf P fs)))
         (w .block .1) (guarded-continuation (w .variables) (suc (length (recordsOf P fs)))) (guarded-handler (w .variables) (suc (length (recordsOf P fs)))) (guarded-variable (w .variables) (suc (length (recordsOf P fs)))) ws (w .block .2)),
   )
 
@@ -181,9 +181,9 @@ module _ (P : Program) (W : WellFormed P) (d : ℕ) (f : FunctionNumber) (x : Va
           ∙ given-some (λ (args : List ℤ). next (begun g (functionOf P g) args (frame f h b vs x ∷ fs))) (values-are vs ys ly)
 
       by : (c : Bool) → leb d (length fs) ≡ c → Follows P d (state f h (call x g ys b) vs fs) (cond (leb d (length fs)) tooDeep free)
-      by true e = along P d (state f h (call x g ys b) vs fs) (ap (λ (c : Bool). cond c tooDeep free) e) (stops h e)
+      by true e = by-equal-outcome P d (state f h (call x g ys b) vs fs) (ap (λ (c : Bool). cond c tooDeep free) e) (stops h e)
       by false e =
-          along P d (state f h (call x g ys b) vs fs) (ap (λ (c : Bool). cond c tooDeep free) e ∙ moves)
+          by-equal-outcome P d (state f h (call x g ys b) vs fs) (ap (λ (c : Bool). cond c tooDeep free) e ∙ moves)
           (record {
             goes = calls h w ly e;
             wellFormed = callee-wellFormed h w ws;

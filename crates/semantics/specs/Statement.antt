@@ -10,8 +10,8 @@ use Rattle.semantics.specs.Program.{FunctionNumber, Block, constant, cop
 use Rattle.semantics.specs.Run.{End, Stop, ended, spent, deep, broken, Result, told}
 use Rattle.semantics.specs.Bench.{State, state, bench}
 use Rattle.semantics.specs.WellFormed.{All, WellFormed}
-use Rattle.semantics.specs.Code.{Expr, letConstant, letSlot, letDifference, jump, resume, handle, ifAtMost, letContinuation, letBoth, Code}
-use Rattle.semantics.specs.Controller.{Control, doing, controller, targetOf}
+use Rattle.semantics.specs.Code.{Expr, letConstant, letSlot, letDifference, jump, resume, handle, ifAtMost, letContinuation, letContinuationWithHandler, Code}
+use Rattle.semantics.specs.Controller.{Control, control, controller, targetOf}
 use Rattle.semantics.specs.SlotRules.{KeepsSlotRules}
 use Rattle.semantics.specs.Translation.{slotOf, number, translate}
 use Rattle.semantics.specs.Extras.{extras}
@@ -37,11 +37,11 @@ MakesRecord (resume k y) = ⊥
 MakesRecord (handle h) = ⊥
 MakesRecord (ifAtMost y z e₁ e₂) = ⊥
 MakesRecord (letContinuation x p e k) = Unit {0}
-MakesRecord (letBoth x p t e h k) = Unit {0}
+MakesRecord (letContinuationWithHandler x p t e h k) = Unit {0}
 
 -- The same call: states match, the bench at a call and the controller at the tag 8 or 9 that it became.
 abbrev pub SameCall : Program → State → Control → Type 0
-SameCall P (state f h b vs fs) (doing e env rs) = Matches P (state f h b vs fs) (doing e env rs) × IsCall b × MakesRecord e
+SameCall P (state f h b vs fs) (control e env rs) = Matches P (state f h b vs fs) (control e env rs) × IsCall b × MakesRecord e
 
 -- A run, as a function of its budget, ends with e; stops deep; runs on for ever: no end and no deep stop at any budget.
 abbrev pub EndsWith : {S : Type 0} → (ℕ → Result S) → End → Type 0
@@ -105,7 +105,7 @@ abbrev pub waiting : State → ℕ
 waiting (state f h b vs fs) = length fs
 
 abbrev pub inUse : Control → ℕ
-inUse (doing e env rs) = length rs
+inUse (control e env rs) = length rs
 
 pub record Sound {S : Type 0} (frames : S → ℕ) (d : ℕ) (R : ℕ → Result S) : Type 0 where
   pub moves : (n : ℕ) → ¬ IsBroken (R n .stop)

@@ -8,7 +8,7 @@ use lib.IntN.{ℤ}
 use Rattle.semantics.specs.Program.{constant, copy, difference, call, goto, return, branch, raise, Program, functionOf}
 use Rattle.semantics.specs.Run.{End, Outcome, next, end, tooDeep, stuck, Stop, ended, spent, deep, broken, Result, told, oneMoreIfDeep, after, added, run, total}
 use Rattle.semantics.specs.Bench.{Frame, frame, State, state, begun, step, bench}
-use Rattle.semantics.specs.Controller.{Control, doing, started, controlStep, controller}
+use Rattle.semantics.specs.Controller.{Control, control, started, controlStep, controller}
 use Rattle.semantics.specs.Code.{Code}
 use Rattle.semantics.specs.Extras.{caught, caughtOutside, extra, extras}
 use Rattle.semantics.specs.Matching.{over, going, holding, HoldingsMatch}
@@ -18,7 +18,7 @@ use Rattle.semantics.specs.RunLaws.{IsLast, last, Goes, Ran, ran-spent, 
 -- ── A run takes no more steps than its budget, fewer where it stops deep, and stops deep with one more than its steps ────
 
 pub record Early {S : Type 0} (step : S → Outcome S) (n : ℕ) (s : S) : Type 0 where
-  pub few : run step n s .steps ≤ n
+  pub stepBound : run step n s .steps ≤ n
   pub left : IsDeep (run step n s .stop) → run step n s .steps < n
   pub again : IsDeep (run step n s .stop) → run step (run step n s .steps + 1) s ≡ run step n s
 
@@ -27,7 +27,7 @@ module _ {S : Type 0} (step : S → Outcome S) (n : ℕ) (s : S) where
   by-spent t e =
       let q : run step n s .steps ≡ n = ap (λ (r : Result S). r .steps) e in
       record {
-        few = omega arith;
+        stepBound = omega arith;
         left = λ d. absurd (subst (λ (r : Result S). IsDeep (r .stop)) e d);
         again = λ d. absurd (subst (λ (r : Result S). IsDeep (r .stop)) e d);
       }
@@ -37,21 +37,21 @@ module _ {S : Type 0} (step : S → Outcome S) (n : ℕ) (s : S) where
   by-last k t g l h (end x) e r =
       let q : run step n s .steps ≡ k + 1 = ap (λ (y : Result S). y .steps) r in
       record {
-        few = omega arith;
+        stepBound = omega arith;
         left = λ d. absurd (subst (λ (y : Result S). IsDeep (y .stop)) r d);
         again = λ d. absurd (subst (λ (y : Result S). IsDeep (y .stop)) r d);
       }
   by-last k t g l h tooDeep e r =
       let q : run step n s .steps ≡ k = ap (λ (y : Result S). y .steps) (run-deep step k n s t g e h) in
       record {
-        few = omega arith;
+        stepBound = omega arith;
         left = λ d. omega arith;
         again = λ d. ap (λ (m : ℕ). run step (m + 1) s) q ∙ (run-deep step k (k + 1) s t g e (omega arith) ∙ sym (run-deep step k n s t g e h));
       }
   by-last k t g l h stuck e r =
       let q : run step n s .steps ≡ k + 0 = ap (λ (y : Result S). y .steps) r in
       record {
-        few = omega arith;
+        stepBound = omega arith;
         left = λ d. absurd (subst (λ (y : Result S). IsDeep (y .stop)) r d);
         again = λ d. absurd (subst (λ (y : Result S). IsDeep (y .stop)) r d);
       }
@@ -66,9 +66,9 @@ module _ {S : Type 0} (step : S → Outcome S) (n : ℕ) (s : S) where
 -- ── Extras are few ──────────────────────────────────────────────────────────────────────────────
 
 module _ {S : Type 0} (step : S → Outcome S) (weight : S → ℕ) (m : ℕ) (light : (s : S) → weight s ≤ m) where
-  pub total-few : (n : ℕ) (s : S) → total step weight n s ≤ m * n
-  total-few zero s = omega arith
-  total-few (suc n) s = by (step s) (λ (t : S). total-few n t)
+  pub total-bound : (n : ℕ) (s : S) → total step weight n s ≤ m * n
+  total-bound zero s = omega arith
+  total-bound (suc n) s = by (step s) (λ (t : S). total-bound n t)
     where
       by : (o : Outcome S) → ((t : S) → total step weight n t ≤ m * n) → added (weight s) o (λ (t : S). total step weight n t) ≤ m * suc n
       by (next t) h = let a : weight s ≤ m = light s in let b : total step weight n t ≤ m * n = h t in let q : m * suc n ≡ m * n + m = omega arith in omega arith
@@ -76,36 +76,36 @@ module _ {S : Type 0} (step : S → Outcome S) (weight : S → ℕ) (m : ℕ) (l
       by tooDeep h = omega arith
       by stuck h = omega arith
 
-caught-few : (fs : List Frame) → caught fs ≤ 1
-caught-few [] = omega arith
-caught-few (frame f zero b vs x ∷ fs) = caught-few fs
-caught-few (frame f (suc l) b vs x ∷ fs) = omega arith
+caught-bound : (fs : List Frame) → caught fs ≤ 1
+caught-bound [] = omega arith
+caught-bound (frame f zero b vs x ∷ fs) = caught-bound fs
+caught-bound (frame f (suc l) b vs x ∷ fs) = omega arith
 
-outside-few : (h : ℕ) (fs : List Frame) → caughtOutside h fs ≤ 1
-outside-few zero fs = caught-few fs
-outside-few (suc h) fs = omega arith
+outside-bound : (h : ℕ) (fs : List Frame) → caughtOutside h fs ≤ 1
+outside-bound zero fs = caught-bound fs
+outside-bound (suc h) fs = omega arith
 
-module _ (P : Program) (m : ℕ) (few : (g : ℕ) → functionOf P g .locals ≤ m) where
-  pub extra-few : (S : State) → extra P S ≤ suc m
-  extra-few (state f h (constant x i b) vs fs) = omega arith
-  extra-few (state f h (copy x y b) vs fs) = omega arith
-  extra-few (state f h (difference x y z b) vs fs) = omega arith
-  extra-few (state f h (call x g ys b) vs fs) = let l : functionOf P g .locals ≤ m = few g in omega arith
-  extra-few (state f h (goto l) vs fs) = omega arith
-  extra-few (state f h (return x) vs fs) = omega arith
-  extra-few (state f h (branch y z l m) vs fs) = omega arith
-  extra-few (state f h raise vs fs) = let l : caughtOutside h fs ≤ 1 = outside-few h fs in omega arith
+module _ (P : Program) (m : ℕ) (localsBound : (g : ℕ) → functionOf P g .locals ≤ m) where
+  pub extra-bound : (S : State) → extra P S ≤ suc m
+  extra-bound (state f h (constant x i b) vs fs) = omega arith
+  extra-bound (state f h (copy x y b) vs fs) = omega arith
+  extra-bound (state f h (difference x y z b) vs fs) = omega arith
+  extra-bound (state f h (call x g ys b) vs fs) = let l : functionOf P g .locals ≤ m = localsBound g in omega arith
+  extra-bound (state f h (goto l) vs fs) = omega arith
+  extra-bound (state f h (return x) vs fs) = omega arith
+  extra-bound (state f h (branch y z l m) vs fs) = omega arith
+  extra-bound (state f h raise vs fs) = let l : caughtOutside h fs ≤ 1 = outside-bound h fs in omega arith
 
-  pub extras-few : (f : ℕ) (args : List ℤ) (d n : ℕ) → extras P f args d n ≤ m + suc m * n
+  pub extras-bound : (f : ℕ) (args : List ℤ) (d n : ℕ) → extras P f args d n ≤ m + suc m * n
   unfolding extras
-  extras-few f args d n =
-      let l : functionOf P f .locals ≤ m = few f in
-      let t : total (step P d) (extra P) n (begun f (functionOf P f) args []) ≤ suc m * n = total-few (step P d) (extra P) (suc m) extra-few n (begun f (functionOf P f) args []) in
+  extras-bound f args d n =
+      let l : functionOf P f .locals ≤ m = localsBound f in
+      let t : total (step P d) (extra P) n (begun f (functionOf P f) args []) ≤ suc m * n = total-bound (step P d) (extra P) (suc m) extra-bound n (begun f (functionOf P f) args []) in
       omega arith
 
-pub bench-few : (P : Program) (f : ℕ) (args : List ℤ) (d n : ℕ) → bench P f args d n .steps ≤ n
+pub bench-bound : (P : Program) (f : ℕ) (args : List ℤ) (d n : ℕ) → bench P f args d n .steps ≤ n
 unfolding bench
-bench-few P f args d n = early (step P d) n (begun f (functionOf P f) args []) .few
+bench-bound P f args d n = early (step P d) n (begun f (functionOf P f) args []) .stepBound
 
 pub bench-again : (P : Program) (f : ℕ) (args : List ℤ) (d n : ℕ) → IsDeep (bench P f args d n .stop) → bench P f args d (bench P f args d n .steps + 1) ≡ bench P f args d n
 unfolding bench
@@ -131,7 +131,7 @@ module _ (P : Program) where
   match-spent S (broken c) n b h = absurd (b tt)
 
   same-states : (S : State) (C : Control) → SameCall P S C → HoldingsMatch P (going S) (going C)
-  same-states (state f h b vs fs) (doing e env rs) c = c .0
+  same-states (state f h b vs fs) (control e env rs) c = c .0
 
   match-deep : (S : State) (y : Stop Control) → IsDeep y → ((C : Control) → y ≡ deep C → SameCall P S C) → StopsMatch P (deep S) y
   match-deep S (ended e′) d h = absurd d

@@ -5,7 +5,7 @@ use mathlib.Core.List.{List, [], _∷_, _++_, map}
 use lib.IntN.{pos}
 use lib.ListN.{length}
 use Rattle.semantics.specs.Program.{FunctionNumber, Variable, Label, Handler, Block, constant, copy, difference, call, goto, return, branch, raise, Labelled, Function, Program, variables}
-use Rattle.semantics.specs.Code.{Slot, Expr, letConstant, letSlot, letDifference, jump, resume, handle, ifAtMost, letContinuation, letBoth, Target, Code}
+use Rattle.semantics.specs.Code.{Slot, Expr, letConstant, letSlot, letDifference, jump, resume, handle, ifAtMost, letContinuation, letContinuationWithHandler, Target, Code}
 
 -- Variable v is in slot v + 2.
 abbrev pub slotOf : Variable → Slot
@@ -29,7 +29,7 @@ code numbers base v h (difference x y z b) = letDifference (slotOf x) (slotOf y)
 code numbers base v zero (call x g ys b) =
     letContinuation (slotOf v) (slotOf x) (jump (numbers g) (slotOf v) 1 (map slotOf ys)) (code numbers base v zero b)
 code numbers base v (suc l) (call x g ys b) =
-    letBoth (slotOf v) (slotOf x) (slotOf (suc v))
+    letContinuationWithHandler (slotOf v) (slotOf x) (slotOf (suc v))
     (jump (numbers g) (slotOf v) (slotOf (suc v)) (map slotOf ys))
     (toLabel base v (suc l))
     (code numbers base v (suc l) b)

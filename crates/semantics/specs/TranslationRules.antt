@@ -100,8 +100,8 @@ module _ (m : ℕ) (P : Program) (W : WellFormed P) (small : All (λ F. slotOf (
     unfolding F
     room = all-getD (λ (G : Function). slotOf (suc (variables G)) < m) P f noFunction small lf
 
-    low : 1 < m
-    low = let r : slotOf (suc (variables F)) < m = room in omega arith
+    oneBelow : 1 < m
+    oneBelow = let r : slotOf (suc (variables F)) < m = room in omega arith
 
     label-rules : (l : Label) → IsLabel (length (F .blocks)) l → KeepsRules (translate P) m (entryKinds (variables F)) (toLabel (number P f) (variables F) l)
     unfolding F
@@ -109,7 +109,7 @@ module _ (m : ℕ) (P : Program) (W : WellFormed P) (small : All (λ F. slotOf (
     label-rules (suc l) k =
         let B : Labelled = getD (F .blocks) l (record { handler = 0; block = raise }) in
         let e : getElem? (translate P) (number P f + suc l) ≡ some (blockTarget (number P) (number P f) (variables F) B) = block-at P f l B lf (at-getD (F .blocks) l (record { handler = 0; block = raise }) (k .1)) in
-        let one : 1 < m = low in (
+        let one : 1 < m = oneBelow in (
           at-below (translate P) (number P f + suc l) (blockTarget (number P) (number P f) (variables F) B) e,
           (omega arith, refl),
           (one, refl),
@@ -142,7 +142,7 @@ module _ (m : ℕ) (P : Program) (W : WellFormed P) (small : All (λ F. slotOf (
     code-rules zero lh (call x g ys b) w =
         let r : slotOf (suc (variables F)) < m = room in
         let lx : x < variables F = w .0 in
-        let one : 1 < m = low in (
+        let one : 1 < m = oneBelow in (
           omega arith,
           omega arith,
           entry-rules g (called m (variables F) room) (slotOf (variables F)) 1 (map slotOf ys) (w .1) (omega arith, called-continuation m (variables F) room) (one, refl) (length-map ys slotOf ∙ w .2) (arguments-bound m (variables F) room (called m (variables F) room) (called-wider m (variables F) room) ys (w .3)),
@@ -160,9 +160,9 @@ module _ (m : ℕ) (P : Program) (W : WellFormed P) (small : All (λ F. slotOf (
           subst (λ (ks : Kinds). KeepsRules (translate P) m ks (code (number P) (number P f) (variables F) (suc l) b)) (sym (bind-among (variables F) x (w .0))) (code-rules (suc l) lh b (w .4)),
         )
     code-rules h lh (goto l) w = label-rules l w
-    code-rules h lh (return x) w = let one : 1 < m = low in ((omega arith, refl), variable-bound m (variables F) room x w)
+    code-rules h lh (return x) w = let one : 1 < m = oneBelow in ((omega arith, refl), variable-bound m (variables F) room x w)
     code-rules h lh (branch y z l k) w = (variable-bound m (variables F) room y (w .0), variable-bound m (variables F) room z (w .1), label-rules l (w .2), label-rules k (w .3))
-    code-rules zero lh raise w = (low, refl)
+    code-rules zero lh raise w = (oneBelow, refl)
     code-rules (suc l) lh raise w = label-rules (suc l) (omega arith, lh)
 
     -- Each local is bound in its turn.

@@ -24,4 +24,4 @@ pub record Acceptance : Type 0 where
   -- The writing of all such code is accepted, and it is the code that is read.
   pub isAccepted : (Q : Code) → HasFile Q → (checkOf (writing Q) ≡ accepted) × (codeOf (writing Q) ≡ Q)
   -- No two codes share a file.
-  pub isOne : (Q R : Code) → HasFile Q → HasFile R → writing Q ≡ writing R → Q ≡ R
+  pub isUnique : (Q R : Code) → HasFile Q → HasFile R → writing Q ≡ writing R → Q ≡ R

@@ -10,14 +10,14 @@ use Rattle.semantics.specs.WellFormed.{All}
 use Rattle.parsing.specs.Parser.{accepted, joined}
 use Rattle.parsing.specs.Bytes.{Bytes, pairBytes}
 use Rattle.parsing.specs.BytesLaws.{pair-forth}
-use Rattle.parsing.specs.WroteLaws.{Wrote, wrote-join, wrote-marked, wrote-version}
+use Rattle.parsing.specs.BytesAtLaws.{BytesAt, bytes-at-join, bytes-at-marked, bytes-at-version}
 use Rattle.parsing.specs.ReadsLaws.{reads-marked, reads-version}
-use Rattle.target_file.specs.Layout.{spc}
+use Rattle.target_layout.specs.Layout.{spc}
 use Rattle.target_file.specs.Writing.{size, targetBytes, writing, ConstantsFit, TargetInRange, InRange}
 use Rattle.target_file.specs.Check.{checkOf, codeOf}
 use Rattle.target_file.specs.CodeLaws.{codeSize, CodeAt, Ranged, FileAt}
-use Rattle.target_file.specs.FactsLaws.{passed, passes, code-is}
-use Rattle.target_file.specs.WrittenLaws.{wrote-pair, expr-wrote, code-wrote}
+use Rattle.target_file.specs.LoadedCodeLaws.{passed, passes, code-is}
+use Rattle.target_file.specs.WrittenLaws.{bytes-at-pair, expr-bytes-at, code-bytes-at}
 use Rattle.target_file.specs.ReadsBackLaws.{code-stands, joined-length}
 use Rattle.target_file.specs.Accepted.{HasFile, Acceptance}
 
@@ -25,7 +25,7 @@ module _ (s : List ℕ) (bytes : Bytes s) where
   targets-in-range : (at : ℕ) (Q : Code) → CodeAt s at Q → All Ranged Q → All TargetInRange Q
   targets-in-range at [] h g = tt
   targets-in-range at (D ∷ Q) h g = (
-    record { params = g .0 .params; constants = expr-wrote s bytes (at + 3) (D .body) (h .2) .1; levels = g .0 .levels },
+    record { params = g .0 .params; constants = expr-bytes-at s bytes (at + 3) (D .body) (h .2) .1; levels = g .0 .levels },
     targets-in-range (at + 3 + size (D .body)) Q (h .3) (g .1),
   )
 
@@ -33,11 +33,11 @@ module _ (s : List ℕ) (bytes : Bytes s) where
   unfolding writing
   file-written Q f =
       let w = f .whole in
-      let a = wrote-marked s spc 0 (f .mark) in
-      let b = wrote-version s 3 (f .versioned) in
-      let c : Wrote s 5 7 (pairBytes (length Q)) = subst (λ (n : ℕ). Wrote s 5 7 (pairBytes n)) (f .counted) (wrote-pair s bytes 5 (omega arith)) in
-      let d = code-wrote s bytes 7 Q (f .stands) in
-      let x = wrote-join s a (wrote-join s b (wrote-join s c d)) in
+      let a = bytes-at-marked s spc 0 (f .mark) in
+      let b = bytes-at-version s 3 (f .versioned) in
+      let c : BytesAt s 5 7 (pairBytes (length Q)) = subst (λ (n : ℕ). BytesAt s 5 7 (pairBytes n)) (f .counted) (bytes-at-pair s bytes 5 (omega arith)) in
+      let d = code-bytes-at s bytes 7 Q (f .stands) in
+      let x = bytes-at-join s a (bytes-at-join s b (bytes-at-join s c d)) in
       let e : drop (7 + codeSize Q) s ≡ [] = ap (λ (n : ℕ). drop n s) (sym w) ∙ drop-length s in
       x .stands ∙ ap (λ (r : List ℕ). (spc ++ ((1 ∷ 0 ∷ []) ++ (pairBytes (length Q) ++ joined targetBytes Q))) ++ r) e ∙ append-nil (writing Q)
 
@@ -48,7 +48,7 @@ is-writing s bytes e =
       record {
         inRange = record { some = p .file .least; most = p .file .most; targets = targets-in-range s bytes 7 (codeOf s) (p .file .stands) (p .file .ranged) };
         rules = p .rules;
-        fits = subst (λ (l : List ℕ). length l ≤ 65535) w (p .short);
+        fits = subst (λ (l : List ℕ). length l ≤ 65535) w (p .fileBound);
       },
       w,
     )
@@ -81,12 +81,12 @@ written-stands Q r =
 pub is-accepted : (Q : Code) → HasFile Q → (checkOf (writing Q) ≡ accepted) × (codeOf (writing Q) ≡ Q)
 is-accepted Q h =
     let f = written-stands Q (h .inRange) in
-    (passes (writing Q) Q (record { short = h .fits; file = f; rules = h .rules }), code-is (writing Q) Q f)
+    (passes (writing Q) Q (record { fileBound = h .fits; file = f; rules = h .rules }), code-is (writing Q) Q f)
 
 pub acceptance : Acceptance
 acceptance =
     record {
       isWriting = is-writing;
       isAccepted = is-accepted;
-      isOne = λ Q R q r e. sym (is-accepted Q q .1) ∙ ap codeOf e ∙ is-accepted R r .1;
+      isUnique = λ Q R q r e. sym (is-accepted Q q .1) ∙ ap codeOf e ∙ is-accepted R r .1;
     }

@@ -7,7 +7,7 @@ use lib.Dec.{leb}
 use lib.ListN.{length}
 use Rattle.semantics.specs.Code.{Code}
 use Rattle.parsing.specs.Parser.{Parsed, read, refuse, Verdict, accepted, refused}
-use Rattle.target_file.specs.Layout.{code}
+use Rattle.target_layout.specs.Layout.{code}
 
 abbrev pub verdict : {A : Type 0} → Parsed A → Verdict
 verdict (read a next) = accepted

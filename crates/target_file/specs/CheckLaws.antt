@@ -9,7 +9,7 @@ use Rattle.parsing.specs.declared.Refusal.{Refusal}
 use Rattle.parsing.specs.declared.Scan.the-variants.{Past, Stopped}
 use Rattle.parsing.specs.Parser.{Parsed, pastOf, accepted, refused}
 use Rattle.parsing.specs.ParserLaws.{past-read, past-refuse}
-use Rattle.target_file.specs.Layout.{code}
+use Rattle.target_layout.specs.Layout.{code}
 use Rattle.target_file.specs.Check.{verdict, arities, checkOf, codeOf}
 
 module _ {A : Type 0} (x : Parsed A) where

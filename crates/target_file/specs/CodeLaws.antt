@@ -10,16 +10,16 @@ use Rattle.semantics.specs.Code.{Expr, Target, Code}
 use Rattle.semantics.specs.WellFormed.{All}
 use Rattle.parsing.specs.Parser.{Parsed, read, andThen, many}
 use Rattle.parsing.specs.Fields.{byte, marked, version, count, ended}
-use Rattle.parsing.specs.ParserLaws.{both, read-count, ReadMany, none, one, read-many, byte-in}
-use Rattle.parsing.specs.WroteLaws.{wrote-marked, wrote-version, read-ended}
+use Rattle.parsing.specs.ParserLaws.{sequence, read-count, ReadMany, none, one, read-many, byte-in}
+use Rattle.parsing.specs.BytesAtLaws.{bytes-at-marked, bytes-at-version, read-ended}
 use Rattle.parsing.specs.ReadsLaws.{reads-ended}
 use Rattle.target_tags.specs.Tag.{pairAt}
-use Rattle.target_tags.specs.Names.{entryKinds}
-use Rattle.target_file.specs.Layout.{spc, sized, expression, function, functions, code}
+use Rattle.target_names.specs.Names.{entryKinds}
+use Rattle.target_layout.specs.Layout.{spc, sized, expression, function, functions, code}
 use Rattle.target_file.specs.Writing.{size, Nests}
-use Rattle.target_file.specs.Facts.{ExprAt}
-use Rattle.target_file.specs.PartLaws.{sized-read}
-use Rattle.target_file.specs.FileLaws.{read-functions, functions-right}
+use Rattle.target_file.specs.LoadedCode.{ExprAt}
+use Rattle.target_layout.specs.PartLaws.{sized-read}
+use Rattle.target_layout.specs.FileLaws.{read-functions, functions-right}
 use Rattle.target_file.specs.RightLaws.{Right}
 use Rattle.target_file.specs.ReadLaws.{expression-found}
 use Rattle.target_file.specs.StandsLaws.{stands-inside, stands-within, sized-holds, expression-stands}
@@ -56,8 +56,8 @@ module _ (names : Bool) (ps s : List ℕ) where
   function-found : (at : ℕ) (D : Target) (next : ℕ) → function names ps s at ≡ read D next → FoundFunction at D next
   unfolding function
   function-found at D next w =
-      let a = both (count 0 32 s at) (λ p m. andThen (sized (expression names ps 0 (entryKinds p)) s m) (λ e i. read (record { params = p; body = e }) i)) w in
-      let b = both (sized (expression names ps 0 (entryKinds (a .first))) s (a .middle)) (λ e i. read (record { params = a .first; body = e }) i) (a .follows) in
+      let a = sequence (count 0 32 s at) (λ p m. andThen (sized (expression names ps 0 (entryKinds p)) s m) (λ e i. read (record { params = p; body = e }) i)) w in
+      let b = sequence (sized (expression names ps 0 (entryKinds (a .first))) s (a .middle)) (λ e i. read (record { params = a .first; body = e }) i) (a .follows) in
       let c = read-count 0 32 s at (a .reads) in
       let m : a .middle ≡ at + 1 = c .byte .past in
       go (a .first) (b .first) (b .middle) (c .byte .is) (c .most)
@@ -143,14 +143,14 @@ module _ (names : Bool) (ps s : List ℕ) where
   pub file-read : (Q : Code) (next : ℕ) → code names ps s 0 ≡ read Q next → FileAt s Q × (names ≡ true → All (RightBody ps) Q)
   unfolding code
   file-read Q next w =
-      let a = both (marked spc s 0) (λ u m. andThen (version s m) (λ u₁ m₁. andThen (functions s m₁) (λ n m₂. andThen (many n (function names ps) s m₂) (λ R m₃. andThen (ended s m₃) (λ u₂ m₄. read R m₄))))) w in
-      let b = both (version s (a .middle)) (λ u₁ m₁. andThen (functions s m₁) (λ n m₂. andThen (many n (function names ps) s m₂) (λ R m₃. andThen (ended s m₃) (λ u₂ m₄. read R m₄)))) (a .follows) in
-      let c = both (functions s (b .middle)) (λ n m₂. andThen (many n (function names ps) s m₂) (λ R m₃. andThen (ended s m₃) (λ u₂ m₄. read R m₄))) (b .follows) in
-      let d = both (many (c .first) (function names ps) s (c .middle)) (λ R m₃. andThen (ended s m₃) (λ u₂ m₄. read R m₄)) (c .follows) in
-      let e = both (ended s (d .middle)) (λ u₂ m₄. read (d .first) m₄) (d .follows) in
-      let p : a .middle ≡ 3 = wrote-marked s spc 0 (a .reads) .past in
+      let a = sequence (marked spc s 0) (λ u m. andThen (version s m) (λ u₁ m₁. andThen (functions s m₁) (λ n m₂. andThen (many n (function names ps) s m₂) (λ R m₃. andThen (ended s m₃) (λ u₂ m₄. read R m₄))))) w in
+      let b = sequence (version s (a .middle)) (λ u₁ m₁. andThen (functions s m₁) (λ n m₂. andThen (many n (function names ps) s m₂) (λ R m₃. andThen (ended s m₃) (λ u₂ m₄. read R m₄)))) (a .follows) in
+      let c = sequence (functions s (b .middle)) (λ n m₂. andThen (many n (function names ps) s m₂) (λ R m₃. andThen (ended s m₃) (λ u₂ m₄. read R m₄))) (b .follows) in
+      let d = sequence (many (c .first) (function names ps) s (c .middle)) (λ R m₃. andThen (ended s m₃) (λ u₂ m₄. read R m₄)) (c .follows) in
+      let e = sequence (ended s (d .middle)) (λ u₂ m₄. read (d .first) m₄) (d .follows) in
+      let p : a .middle ≡ 3 = bytes-at-marked s spc 0 (a .reads) .past in
       let v : version s 3 ≡ read (b .first) (b .middle) = subst (λ (i : ℕ). version s i ≡ read (b .first) (b .middle)) p (b .reads) in
-      let q : b .middle ≡ 5 = wrote-version s 3 v .past in
+      let q : b .middle ≡ 5 = bytes-at-version s 3 v .past in
       let f : functions s 5 ≡ read (c .first) (c .middle) = subst (λ (i : ℕ). functions s i ≡ read (c .first) (c .middle)) q (c .reads) in
       let n = read-functions s 5 f in
       let r : many (c .first) (function names ps) s 7 ≡ read (d .first) (d .middle) = subst (λ (i : ℕ). many (c .first) (function names ps) s i ≡ read (d .first) (d .middle)) (n .past) (d .reads) in

@@ -7,13 +7,13 @@ use native.Mathlib.Decide.{ℕ-discrete}
 use borrow.Author.Tests.{lt-ltb}
 use lib.ListN.{length, getD, set, replicate, length-set, length-map, List·getD-map}
 use lib.Seq.{getD-set-same, getD-set-other}
-use Rattle.semantics.specs.Code.{Expr, letConstant, letSlot, letDifference, jump, resume, handle, ifAtMost, letContinuation, letBoth, Target, Code}
+use Rattle.semantics.specs.Code.{Expr, letConstant, letSlot, letDifference, jump, resume, handle, ifAtMost, letContinuation, letContinuationWithHandler, Target, Code}
 use Rattle.semantics.specs.Controller.{noTarget, targetOf, put}
 use Rattle.semantics.specs.WellFormed.{All}
 use Rattle.semantics.specs.SlotRules.{Kind, unboundKind, wholeKind, continuationKind, handlerKind, Kinds, kindAt, bindKind, IsBound, KeepsRules}
 use Rattle.semantics.specs.SlotRules as rules
 use Rattle.semantics.specs.ListLaws.{put-same, put-other}
-use Rattle.target_tags.specs.Names.{bound, entryKinds}
+use Rattle.target_names.specs.Names.{bound, entryKinds}
 use Rattle.target_file.specs.Check.{arities}
 use Rattle.target_file.specs.RightLaws.{IsKind, Right}
 use Rattle.target_file.specs.CodeLaws.{RightBody, Ranged}
@@ -41,21 +41,21 @@ same-kind k l e = sym (number-kind k) ∙ ap kindOf e ∙ number-kind l
 
 -- The numbers are those of the kinds.
 pub record Like (KS : Kinds) (ks : List ℕ) : Type 0 where
-  pub wide : length ks ≡ 36
+  pub slotCount : length ks ≡ 36
   pub same : (x : ℕ) → x < 36 → getD ks x 0 ≡ kindNumber (kindAt KS x)
 
 pub like-bind : (KS : Kinds) (ks : List ℕ) (x : ℕ) (k : Kind) → x < 36 → Like KS ks → Like (bindKind KS x k) (bound ks x (kindNumber k))
 unfolding bound
 like-bind KS ks x k h l =
     rw (lt-ltb x 36 h)
-    (record { wide = length-set ks x (kindNumber k) ∙ l .wide; same = same })
+    (record { slotCount = length-set ks x (kindNumber k) ∙ l .slotCount; same = same })
   where
     same : (y : ℕ) → y < 36 → getD (set ks x (kindNumber k)) y 0 ≡ kindNumber (kindAt (bindKind KS x k) y)
     same y i = go (ℕ-discrete x y)
       where
         go : Dec (x ≡ y) → getD (set ks x (kindNumber k)) y 0 ≡ kindNumber (kindAt (bindKind KS x k) y)
         go (yes e) =
-            let w = l .wide in
+            let w = l .slotCount in
             subst (λ (z : ℕ). getD (set ks x (kindNumber k)) z 0 ≡ kindNumber (kindAt (bindKind KS x k) z)) e
             (getD-set-same ks x (kindNumber k) 0 (omega arith) ∙ ap kindNumber (sym (put-same unboundKind KS x k)))
         go (no d) =
@@ -102,7 +102,7 @@ module _ (Q : Code) where
     right-keeps (bindKind KS x continuationKind) (bound ks x 2) e (like-bind KS ks x continuationKind (r .0) l) (r .2),
     right-keeps (bindKind KS p wholeKind) (bound ks p 1) k (like-bind KS ks p wholeKind (r .1) l) (r .3),
   )
-  right-keeps KS ks (letBoth x p t e h k) l r = (
+  right-keeps KS ks (letContinuationWithHandler x p t e h k) l r = (
     r .0,
     r .1,
     r .2,
@@ -131,7 +131,7 @@ module _ (Q : Code) where
     keeps-right (bindKind KS x continuationKind) (bound ks x 2) e (like-bind KS ks x continuationKind (r .0) l) (r .2),
     keeps-right (bindKind KS p wholeKind) (bound ks p 1) k (like-bind KS ks p wholeKind (r .1) l) (r .3),
   )
-  keeps-right KS ks (letBoth x p t e h k) l r = (
+  keeps-right KS ks (letContinuationWithHandler x p t e h k) l r = (
     r .0,
     r .1,
     r .2,
@@ -149,7 +149,7 @@ put-after (suc n) = ap (λ (l : Kinds). wholeKind ∷ l) (put-after n)
 
 pub entry-like : (n : ℕ) → n ≤ 34 → Like (rules.entryKinds n) (entryKinds n)
 unfolding entryKinds
-entry-like zero h = record { wide = refl; same = none }
+entry-like zero h = record { slotCount = refl; same = none }
   where
     zeros : (m x : ℕ) → _≡_ {A = ℕ} (getD (replicate m 0) x 0) 0
     zeros zero x = refl

@@ -1,17 +1,11 @@
--- Translated files. Definitions and statements, in reading order; Ends has what the functions answer.
-pub mod Layout
+-- Translated files. Definitions and statements, in reading order.
 pub mod Check
 pub mod Writing
 pub mod Accepted
 pub mod Translated
 pub mod Tables
-pub mod Facts
-pub mod Ends
--- Laws and theorems: AcceptedLaws proves Accepted, TranslatedLaws proves Translated, FactsLaws and FormLaws give the facts.
-pub mod LayoutLaws
-pub mod PartLaws
-pub mod EndLaws
-pub mod FileLaws
+pub mod LoadedCode
+-- Laws and theorems: AcceptedLaws proves Accepted, TranslatedLaws proves Translated, LoadedCodeLaws and FormLaws give what the controller cites.
 pub mod RightLaws
 pub mod ReadLaws
 pub mod StandsLaws
@@ -19,7 +13,7 @@ pub mod CodeLaws
 pub mod TablesLaws
 pub mod CheckLaws
 pub mod KindLaws
-pub mod FactsLaws
+pub mod LoadedCodeLaws
 pub mod WrittenLaws
 pub mod ReadsBackLaws
 pub mod AcceptedLaws

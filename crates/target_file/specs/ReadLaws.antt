@@ -6,20 +6,20 @@ use mathlib.Core.List.{List}
 use native.Mathlib.Omega.{arith}
 use lib.ListN.{length, getD, drop, length-drop}
 use lib.Seq.{length-take-le}
-use Rattle.semantics.specs.Code.{Expr, letConstant, letSlot, letDifference, jump, resume, handle, ifAtMost, letContinuation, letBoth}
+use Rattle.semantics.specs.Code.{Expr, letConstant, letSlot, letDifference, jump, resume, handle, ifAtMost, letContinuation, letContinuationWithHandler}
 use Rattle.parsing.specs.declared.Checked.the-variants.{Accepted}
 use Rattle.parsing.specs.Parser.{read, andThen}
 use Rattle.parsing.specs.Fields.{valueAt}
-use Rattle.parsing.specs.ParserLaws.{both}
+use Rattle.parsing.specs.ParserLaws.{sequence}
 use Rattle.target_tags.specs.declared.tag.Tag.{Tag}
-use Rattle.target_tags.specs.declared.tag.Tag.the-variants.{Branch, Continuation, Both}
+use Rattle.target_tags.specs.declared.tag.Tag.the-variants.{Branch, Continuation, ContinuationWithHandler}
 use Rattle.target_tags.specs.Tag.{pairAt, tagAt}
-use Rattle.target_tags.specs.Names.{_andAlso_, binds, reads, differ, function, arity, values, jumpNames, bothNames, namesOf, judged, bound}
+use Rattle.target_names.specs.Names.{_andAlso_, binds, reads, differ, function, arity, values, jumpNames, continuationWithHandlerNames, namesOf, judged, bound}
 use Rattle.target_tags.specs.ViewLaws.{View, isConstant, isCopy, isDifference, isJump, isResume, isHandle, isBranch, isContinuation, isBoth, isRefused, view}
-use Rattle.target_file.specs.Layout.{measured, sized, Reading, nested, before, from, node, expressionN, expression, slotsAt}
+use Rattle.target_layout.specs.Layout.{measured, sized, Reading, nested, before, from, node, expressionN, expression, slotsAt}
 use Rattle.target_file.specs.Writing.{size, Nests}
-use Rattle.target_file.specs.Facts.{ExprAt}
-use Rattle.target_file.specs.PartLaws.{impossible, before-read, after-read, measured-read, nested-read, sized-read}
+use Rattle.target_file.specs.LoadedCode.{ExprAt}
+use Rattle.target_layout.specs.PartLaws.{impossible, before-read, after-read, measured-read, nested-read, sized-read}
 use Rattle.target_file.specs.RightLaws.{Right, also-right, binds-right, reads-right, differ-right, function-right, arity-right, values-right}
 
 pub slots-length : (s : List ℕ) (at n : ℕ) → at + n ≤ length s → length (slotsAt s at n) ≡ n
@@ -68,7 +68,7 @@ module _ (names : Bool) (ps s : List ℕ) where
 
   module _ (k : Reading) (ih : Finds k) (level : ℕ) (ks : List ℕ) (at : ℕ) {e : Expr} {next : ℕ} where
     from-found : {t : Tag} → View s at t → t ≡ tagAt s at → (names ≡ true → namesOf ps ks s at t ≡ Accepted) → from s k level ks at t ≡ read e next → Found level ks at e next
-    unfolding namesOf jumpNames bothNames
+    unfolding namesOf jumpNames continuationWithHandlerNames
     from-found (isConstant f h) is right w =
         let x = getD s (at + 1) 0 in
         let r = tail-found k ih (letConstant x (valueAt s (at + 2))) level (bound ks x 1) (at + 6) w in
@@ -149,7 +149,7 @@ module _ (names : Bool) (ps s : List ℕ) where
         let y = getD s (at + 1) 0 in
         let z = getD s (at + 2) 0 in
         let n = pairAt s (at + 3) in
-        let b = both (measured (at + 3) (at + 5) n (nested s k level ks (at + 5))) (λ e₁ m. before (ifAtMost y z e₁) (k level ks m)) w in
+        let b = sequence (measured (at + 3) (at + 5) n (nested s k level ks (at + 5))) (λ e₁ m. before (ifAtMost y z e₁) (k level ks m)) w in
         let p = part-found k ih level ks (at + 3) (at + 5) n (b .reads) in
         let r = tail-found k ih (ifAtMost y z (b .first)) level ks (b .middle) (b .follows) in
         subst (λ u. Found level ks at u next) (r .is)
@@ -165,7 +165,7 @@ module _ (names : Bool) (ps s : List ℕ) where
         let x = getD s (at + 1) 0 in
         let y = getD s (at + 2) 0 in
         let n = pairAt s (at + 3) in
-        let b = both (measured (at + 3) (at + 5) n (nested s k level (bound ks x 2) (at + 5))) (λ e₁ m. before (letContinuation x y e₁) (k level (bound ks y 1) m)) w in
+        let b = sequence (measured (at + 3) (at + 5) n (nested s k level (bound ks x 2) (at + 5))) (λ e₁ m. before (letContinuation x y e₁) (k level (bound ks y 1) m)) w in
         let p = part-found k ih level (bound ks x 2) (at + 3) (at + 5) n (b .reads) in
         let r = tail-found k ih (letContinuation x y (b .first)) level (bound ks y 1) (b .middle) (b .follows) in
         subst (λ u. Found level ks at u next) (r .is)
@@ -182,16 +182,16 @@ module _ (names : Bool) (ps s : List ℕ) where
         let y = getD s (at + 2) 0 in
         let t = getD s (at + 3) 0 in
         let n = pairAt s (at + 4) in
-        let b = both (measured (at + 4) (at + 6) n (nested s k level (bound (bound ks x 2) t 3) (at + 6))) (λ e₁ m. andThen (sized (λ s′ m₁. nested s k level ks m₁) s m) (λ e₂ m₂. before (letBoth x y t e₁ e₂) (k level (bound ks y 1) m₂))) w in
+        let b = sequence (measured (at + 4) (at + 6) n (nested s k level (bound (bound ks x 2) t 3) (at + 6))) (λ e₁ m. andThen (sized (λ s′ m₁. nested s k level ks m₁) s m) (λ e₂ m₂. before (letContinuationWithHandler x y t e₁ e₂) (k level (bound ks y 1) m₂))) w in
         let p = part-found k ih level (bound (bound ks x 2) t 3) (at + 4) (at + 6) n (b .reads) in
-        let d = both (sized (λ s′ m₁. nested s k level ks m₁) s (b .middle)) (λ e₂ m₂. before (letBoth x y t (b .first) e₂) (k level (bound ks y 1) m₂)) (b .follows) in
+        let d = sequence (sized (λ s′ m₁. nested s k level ks m₁) s (b .middle)) (λ e₂ m₂. before (letContinuationWithHandler x y t (b .first) e₂) (k level (bound ks y 1) m₂)) (b .follows) in
         let z = sized-read (λ s′ m₁. nested s k level ks m₁) s (b .middle) (d .reads) in
         let v = nested-found k ih level ks (b .middle + 2) (pairAt s (b .middle)) (z .reads) (z .fills) in
-        let r = tail-found k ih (letBoth x y t (b .first) (d .first)) level (bound ks y 1) (d .middle) (d .follows) in
+        let r = tail-found k ih (letContinuationWithHandler x y t (b .first) (d .first)) level (bound ks y 1) (d .middle) (d .follows) in
         subst (λ u. Found level ks at u next) (r .is)
         (record {
           here = (
-            sym is ∙ ap (λ (j : ℕ). Both x y t j (at + 6)) (p .fills),
+            sym is ∙ ap (λ (j : ℕ). ContinuationWithHandler x y t j (at + 6)) (p .fills),
             ap (pairAt s) (sym (p .part .past)) ∙ v .fills,
             p .part .here,
             subst (λ (j : ℕ). ExprAt s (j + 2) (d .first)) (p .part .past) (v .part .here),

@@ -8,17 +8,17 @@ use lib.ListN.{length, getD, take, drop, length-append}
 use lib.Seq.{take-append-seam}
 use mir.Syntax.{w32}
 use mir.Val.{SFits}
-use Rattle.semantics.specs.Code.{Expr, letConstant, letSlot, letDifference, jump, resume, handle, ifAtMost, letContinuation, letBoth, Code}
+use Rattle.semantics.specs.Code.{Expr, letConstant, letSlot, letDifference, jump, resume, handle, ifAtMost, letContinuation, letContinuationWithHandler, Code}
 use Rattle.parsing.specs.Parser.{joined}
 use Rattle.parsing.specs.Fields.{valueAt}
 use Rattle.parsing.specs.Bytes.{pairBytes, valueBytes}
 use Rattle.parsing.specs.BytesLaws.{pair-forth, value-forth}
 use Rattle.parsing.specs.ReadsLaws.{byte-here, first-here, length-here, next-here, behind}
-use Rattle.target_tags.specs.declared.tag.Tag.the-variants.{Constant, Copy, Difference, Jump, Resume, Handle, Branch, Continuation, Both}
+use Rattle.target_tags.specs.declared.tag.Tag.the-variants.{Constant, Copy, Difference, Jump, Resume, Handle, Branch, Continuation, ContinuationWithHandler}
 use Rattle.target_tags.specs.Tag.{pairAt, tagAt}
-use Rattle.target_tags.specs.TagLaws.{tag-1, tag-2, tag-3, tag-4, tag-5, tag-6, tag-7, tag-8, tag-9, constant-in, copy-in, difference-in, jump-in, resume-in, handle-in, branch-in, continuation-in, both-in}
+use Rattle.target_tags.specs.TagLaws.{tag-1, tag-2, tag-3, tag-4, tag-5, tag-6, tag-7, tag-8, tag-9, constant-in, copy-in, difference-in, jump-in, resume-in, handle-in, branch-in, continuation-in, tag-9-in}
 use Rattle.target_file.specs.Writing.{size, exprBytes, targetBytes, ConstantsFit}
-use Rattle.target_file.specs.Facts.{ExprAt}
+use Rattle.target_file.specs.LoadedCode.{ExprAt}
 use Rattle.target_file.specs.CodeLaws.{codeSize, CodeAt}
 use Rattle.semantics.specs.WellFormed.{All}
 
@@ -37,7 +37,7 @@ bytes-length (letContinuation x p e k) =
     let a = bytes-length e in
     let b = bytes-length k in
     omega (arith, length-append (exprBytes e) (exprBytes k))
-bytes-length (letBoth x p t e h k) =
+bytes-length (letContinuationWithHandler x p t e h k) =
     let a = bytes-length e in
     let b = bytes-length h in
     let c = bytes-length k in
@@ -114,12 +114,12 @@ module _ (s : List ℕ) where
         (continuation-in s at x p n (omega arith) (sym (b 1)) (sym (b 2)) (pair-here at (8 ∷ x ∷ p ∷ (pairBytes n ++ rest)) h 3 n refl refl)
         ∙ tag-8 s at (omega arith) (first-here s at (8 ∷ x ∷ p ∷ (pairBytes n ++ rest)) h))
 
-    both-here : (x p t n : ℕ) → drop at s ≡ 9 ∷ x ∷ p ∷ t ∷ (pairBytes n ++ rest) → tagAt s at ≡ Both x p t n (at + 6)
-    both-here x p t n h =
+    tag-9-here : (x p t n : ℕ) → drop at s ≡ 9 ∷ x ∷ p ∷ t ∷ (pairBytes n ++ rest) → tagAt s at ≡ ContinuationWithHandler x p t n (at + 6)
+    tag-9-here x p t n h =
         let b = byte-here s at (9 ∷ x ∷ p ∷ t ∷ (pairBytes n ++ rest)) h in
         let l = length-here s at (9 ∷ x ∷ p ∷ t ∷ (pairBytes n ++ rest)) h in
         sym
-        (both-in s at x p t n (omega arith) (sym (b 1)) (sym (b 2)) (sym (b 3)) (pair-here at (9 ∷ x ∷ p ∷ t ∷ (pairBytes n ++ rest)) h 4 n refl refl)
+        (tag-9-in s at x p t n (omega arith) (sym (b 1)) (sym (b 2)) (sym (b 3)) (pair-here at (9 ∷ x ∷ p ∷ t ∷ (pairBytes n ++ rest)) h 4 n refl refl)
         ∙ tag-9 s at (omega arith) (first-here s at (9 ∷ x ∷ p ∷ t ∷ (pairBytes n ++ rest)) h))
 
   -- What stands behind an expression.
@@ -154,7 +154,7 @@ module _ (s : List ℕ) where
         expr-stands (at + 5) e (exprBytes k ++ rest) (f .0) n,
         expr-stands (at + 5 + size e) k rest (f .1) (past-expr (at + 5) e (exprBytes k ++ rest) n),
       )
-  expr-stands at (letBoth x p t e c k) rest f h =
+  expr-stands at (letContinuationWithHandler x p t e c k) rest f h =
       let r = pairBytes (size c) ++ (exprBytes c ++ exprBytes k) in
       let l = (exprBytes e ++ r) ++ rest in
       let n : drop (at + 6) s ≡ exprBytes e ++ (r ++ rest) = next-here s at (9 ∷ x ∷ p ∷ t ∷ (pairBytes (size e) ++ l)) h 6 ∙ append-assoc (exprBytes e) r rest in
@@ -163,7 +163,7 @@ module _ (s : List ℕ) where
       let q : o + 0 ≡ o = omega arith in
       let z : pairAt s o ≡ size c = ap (pairAt s) (sym q) ∙ sym (pair-here o (r ++ rest) m 0 (size c) refl refl) in
       let d : drop (o + 2) s ≡ exprBytes c ++ (exprBytes k ++ rest) = next-here s o (r ++ rest) m 2 ∙ append-assoc (exprBytes c) (exprBytes k) rest in (
-        both-here at l x p t (size e) h,
+        tag-9-here at l x p t (size e) h,
         z,
         expr-stands (at + 6) e (r ++ rest) (f .0) n,
         expr-stands (o + 2) c (exprBytes k ++ rest) (f .1) d,

@@ -10,14 +10,14 @@ use borrow.Author.Tests.{ltb-true, lt-ltb, eqb-true, eqb-false, eq-eqb, ne-eqb}
 use lib.Dec.{ltb, eqb}
 use lib.ListN.{length, getD}
 use lib.Seq.{drop-cons}
-use Rattle.semantics.specs.Code.{Expr, letConstant, letSlot, letDifference, jump, resume, handle, ifAtMost, letContinuation, letBoth}
+use Rattle.semantics.specs.Code.{Expr, letConstant, letSlot, letDifference, jump, resume, handle, ifAtMost, letContinuation, letContinuationWithHandler}
 use Rattle.semantics.specs.WellFormed.{All}
 use Rattle.parsing.specs.declared.Checked.{Checked}
 use Rattle.parsing.specs.declared.Checked.the-variants.{Accepted, Refused}
 use Rattle.parsing.specs.Parser.{refusal}
-use Rattle.target_tags.specs.Names.{_andAlso_, unless, binds, reads, differ, function, arity, values, bound}
-use Rattle.target_file.specs.Layout.{slotsAt}
-use Rattle.target_file.specs.PartLaws.{impossible}
+use Rattle.target_names.specs.Names.{_andAlso_, unless, binds, reads, differ, function, arity, values, bound}
+use Rattle.target_layout.specs.Layout.{slotsAt}
+use Rattle.target_layout.specs.PartLaws.{impossible}
 
 -- A slot that is read as one of kind k.
 abbrev pub IsKind : List ℕ → ℕ → ℕ → Type 0
@@ -33,7 +33,7 @@ Right ps ks (resume k y) = IsKind ks 2 k × IsKind ks 1 y
 Right ps ks (handle h) = IsKind ks 3 h
 Right ps ks (ifAtMost y z e₁ e₂) = IsKind ks 1 y × IsKind ks 1 z × Right ps ks e₁ × Right ps ks e₂
 Right ps ks (letContinuation x p e k) = (x < 36) × (p < 36) × Right ps (bound ks x 2) e × Right ps (bound ks p 1) k
-Right ps ks (letBoth x p t e h k) =
+Right ps ks (letContinuationWithHandler x p t e h k) =
     (x < 36) × (p < 36) × (t < 36) × (x ≢ t) × Right ps (bound (bound ks x 2) t 3) e × Right ps ks h × Right ps (bound ks p 1) k
 
 unless-right : (t : Bool) (n place : ℕ) → unless t n place ≡ Accepted → t ≡ true

@@ -6,13 +6,13 @@ use mathlib.Core.List.{List, [], _∷_}
 use lib.ListN.{length, take}
 use Rattle.semantics.specs.Code.{Code}
 use Rattle.parsing.specs.Parser.{read}
-use Rattle.target_file.specs.Layout.{code}
+use Rattle.target_layout.specs.Layout.{code}
 use Rattle.target_file.specs.Writing.{size}
 use Rattle.target_file.specs.Check.{arities, codeOf}
 
 -- None of 1 to 6 and 12 applies, and the limit is kept.
 pub record LaidOut (s : List ℕ) : Type 0 where
-  pub short : length s ≤ 65535
+  pub fileBound : length s ≤ 65535
   pub past : ℕ
   pub reads : code false [] s 0 ≡ read (codeOf s) past
 
@@ -23,10 +23,10 @@ startsFrom at (D ∷ Q) = (at + 3) ∷ startsFrom (at + 3 + size (D .body)) Q
 
 -- The table of bodies; what stands past the functions is left open.
 pub record StartsOf (s starts : List ℕ) : Type 0 where
-  pub wide : length starts ≡ 2048
+  pub tableLength : length starts ≡ 2048
   pub placed : take (length (codeOf s)) starts ≡ startsFrom 7 (codeOf s)
 
 pub record Tabled (s starts params : List ℕ) : Type 0 where
   pub bodies : StartsOf s starts
-  pub broad : length params ≡ 2048
+  pub countsLength : length params ≡ 2048
   pub counts : take (length (codeOf s)) params ≡ arities (codeOf s)

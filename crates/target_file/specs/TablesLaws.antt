@@ -13,7 +13,7 @@ use Rattle.parsing.specs.Parser.{read, pastOf}
 use Rattle.parsing.specs.declared.Scan.the-variants.{Past}
 use Rattle.parsing.specs.ParserLaws.{past-read}
 use Rattle.target_tags.specs.Tag.{pairAt}
-use Rattle.target_file.specs.Layout.{code}
+use Rattle.target_layout.specs.Layout.{code}
 use Rattle.target_file.specs.Writing.{size}
 use Rattle.target_file.specs.Check.{arities, codeRead, codeOf}
 use Rattle.target_file.specs.StandsLaws.{stands-inside, stands-within}
@@ -30,11 +30,11 @@ length-starts at (D ∷ Q) = ap suc (length-starts (at + 3 + size (D .body)) Q)
 
 -- The tables are filled up to function i, which stands at an offset.
 pub record Turn (s : List ℕ) (Q : Code) (i at : ℕ) (starts params : List ℕ) : Type 0 where
-  pub few : i ≤ length Q
+  pub counterBound : i ≤ length Q
   pub stands : CodeAt s at (drop i Q)
   pub begins : drop i (startsFrom 7 Q) ≡ startsFrom at (drop i Q)
-  pub wide : length starts ≡ 2048
-  pub broad : length params ≡ 2048
+  pub tableLength : length starts ≡ 2048
+  pub countsLength : length params ≡ 2048
   pub bodies : take i starts ≡ take i (startsFrom 7 Q)
   pub counts : take i params ≡ take i (arities Q)
 
@@ -79,16 +79,16 @@ module _ (s : List ℕ) (Q : Code) (i at : ℕ) (starts params : List ℕ) (turn
     pub turn-on : Turn s Q (i + 1) (at + 3 + n) starts′ params′
     turn-on =
         let p : suc i ≡ i + 1 = omega arith in
-        let w = turn .wide in
-        let b = turn .broad in
+        let w = turn .tableLength in
+        let b = turn .countsLength in
         record {
-          few = omega arith;
+          counterBound = omega arith;
           stands = subst (λ (j : ℕ). CodeAt s (at + 3 + n) (drop j Q)) p (subst (λ (j : ℕ). CodeAt s j (drop (suc i) Q)) place (stand .3));
           begins =
               sym (drop-drop 1 i (startsFrom 7 Q)) ∙ ap (drop 1) begin
               ∙ ap (λ (j : ℕ). startsFrom j (drop (suc i) Q)) place ∙ ap (λ (j : ℕ). startsFrom (at + 3 + n) (drop j Q)) p;
-          wide = ap length es ∙ length-set starts i (at + 3) ∙ w;
-          broad = ap length ep ∙ length-set params i v ∙ b;
+          tableLength = ap length es ∙ length-set starts i (at + 3) ∙ w;
+          countsLength = ap length ep ∙ length-set params i v ∙ b;
           bodies = ap (take (i + 1)) es ∙ more-filled starts (startsFrom 7 Q) i (at + 3) (omega arith) (omega (arith, length-starts 7 Q)) (turn .bodies) start-is;
           counts = ap (take (i + 1)) ep ∙ more-filled params (arities Q) i v (omega arith) (omega (arith, length-map Q (λ (T : Target). T .params))) (turn .counts) params-is;
         }
@@ -97,12 +97,12 @@ module _ (s : List ℕ) (Q : Code) (i at : ℕ) (starts params : List ℕ) (turn
 pub turn-done : (s : List ℕ) (i at : ℕ) (starts params : List ℕ) → Turn s (codeOf s) i at starts params → length (codeOf s) ≤ i → Tabled s starts params
 turn-done s i at starts params turn h =
     let Q = codeOf s in
-    let q : i ≡ length Q = let f = turn .few in omega arith in
+    let q : i ≡ length Q = let f = turn .counterBound in omega arith in
     let a : take (length Q) starts ≡ take (length Q) (startsFrom 7 Q) = subst (λ (j : ℕ). take j starts ≡ take j (startsFrom 7 Q)) q (turn .bodies) in
     let b : take (length Q) params ≡ take (length Q) (arities Q) = subst (λ (j : ℕ). take j params ≡ take j (arities Q)) q (turn .counts) in
     record {
-      bodies = record { wide = turn .wide; placed = a ∙ take-all (length Q) (startsFrom 7 Q) (omega (arith, length-starts 7 Q)) };
-      broad = turn .broad;
+      bodies = record { tableLength = turn .tableLength; placed = a ∙ take-all (length Q) (startsFrom 7 Q) (omega (arith, length-starts 7 Q)) };
+      countsLength = turn .countsLength;
       counts = b ∙ take-all (length Q) (arities Q) (omega (arith, length-map Q (λ (T : Target). T .params)));
     }
 
@@ -111,11 +111,11 @@ pub laid-out : (s : List ℕ) (next : ℕ) → length s ≤ 65535 → pastOf (co
 unfolding codeOf
 laid-out s next l e =
     let r = past-read (code false [] s 0) e in
-    record { short = l; past = next; reads = r .is ∙ ap (λ Q. read Q next) (sym (ap codeRead (r .is))) }
+    record { fileBound = l; past = next; reads = r .is ∙ ap (λ Q. read Q next) (sym (ap codeRead (r .is))) }
 
 pub laid-file : (s : List ℕ) → LaidOut s → FileAt s (codeOf s)
 laid-file s l = file-read false [] s (codeOf s) (l .past) (l .reads) .0
 
 pub turn-start : (s starts params : List ℕ) → LaidOut s → length starts ≡ 2048 → length params ≡ 2048 → Turn s (codeOf s) 0 7 starts params
 turn-start s starts params laid w b =
-    record { few = omega arith; stands = laid-file s laid .stands; begins = refl; wide = w; broad = b; bodies = refl; counts = refl }
+    record { counterBound = omega arith; stands = laid-file s laid .stands; begins = refl; tableLength = w; countsLength = b; bodies = refl; counts = refl }

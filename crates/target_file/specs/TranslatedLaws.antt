@@ -15,7 +15,7 @@ use Rattle.semantics.specs.Translation.{slotOf, code, bindZeros, blockTarget, t
 use Rattle.semantics.specs.TranslationRules.{rules}
 use Rattle.semantics.specs.ListLaws.{all-append, all-mapped}
 use Rattle.target_file.specs.Writing.{writing, ConstantsFit, Nests, TargetInRange, InRange}
-use Rattle.target_file.specs.FactsLaws.{passed, code-is}
+use Rattle.target_file.specs.LoadedCodeLaws.{passed, code-is}
 use Rattle.target_file.specs.Accepted.{HasFile}
 use Rattle.target_file.specs.AcceptedLaws.{is-accepted, written-stands}
 use Rattle.target_file.specs.Translated.{BlockFits, FunctionFits, Source, TranslationAccepted}
@@ -83,10 +83,10 @@ module _ (numbers : FunctionNumber → ℕ) where
   from-range base (F ∷ Fs) f =
       all-append TargetInRange (translateFunction numbers base F) (translateFrom numbers (base + targets F) Fs) (function-range base F (f .0)) (from-range (base + targets F) Fs (f .1))
 
-  from-few : (base : ℕ) (Fs : List Function) → All FunctionFits Fs → (length Fs ≤ length (translateFrom numbers base Fs)) × (length (translateFrom numbers base Fs) ≤ 64 * length Fs)
-  from-few base [] f = (omega arith, omega arith)
-  from-few base (F ∷ Fs) f =
-      let r = from-few (base + targets F) Fs (f .1) in
+  from-bound : (base : ℕ) (Fs : List Function) → All FunctionFits Fs → (length Fs ≤ length (translateFrom numbers base Fs)) × (length (translateFrom numbers base Fs) ≤ 64 * length Fs)
+  from-bound base [] f = (omega arith, omega arith)
+  from-bound base (F ∷ Fs) f =
+      let r = from-bound (base + targets F) Fs (f .1) in
       let a = r .0 in
       let b = r .1 in
       let n = f .0 .blocks in
@@ -98,19 +98,19 @@ module _ (P : Program) (W : Source P) where
   pub translation-range : InRange (translate P)
   unfolding translate
   translation-range =
-      let n = from-few (number P) 0 P (W .functions) in
+      let n = from-bound (number P) 0 P (W .functions) in
       let a = n .0 in
       let b = n .1 in
       let s = W .some in
       let m = W .most in
       record { some = omega arith; most = omega arith; targets = from-range (number P) 0 P (W .functions) }
 
-  slots-few : (Fs : List Function) → All FunctionFits Fs → All (λ F. slotOf (suc (variables F)) < 36) Fs
-  slots-few [] f = tt
-  slots-few (F ∷ Fs) f = (let p = f .0 .params in let l = f .0 .locals in omega arith, slots-few Fs (f .1))
+  slots-bound : (Fs : List Function) → All FunctionFits Fs → All (λ F. slotOf (suc (variables F)) < 36) Fs
+  slots-bound [] f = tt
+  slots-bound (F ∷ Fs) f = (let p = f .0 .params in let l = f .0 .locals in omega arith, slots-bound Fs (f .1))
 
   pub translation-rules : KeepsSlotRules 36 (translate P)
-  translation-rules = rules 36 P (W .wellFormed) (slots-few P (W .functions))
+  translation-rules = rules 36 P (W .wellFormed) (slots-bound P (W .functions))
 
   pub translation-has-file : length (writing (translate P)) ≤ 65535 → HasFile (translate P)
   translation-has-file h = record { inRange = translation-range; rules = translation-rules; fits = h }
@@ -118,6 +118,6 @@ module _ (P : Program) (W : Source P) where
 pub translation-accepted : TranslationAccepted
 translation-accepted =
     record {
-      fits = λ P W. (λ e. passed (writing (translate P)) e .short, λ h. is-accepted (translate P) (translation-has-file P W h) .0);
+      fits = λ P W. (λ e. passed (writing (translate P)) e .fileBound, λ h. is-accepted (translate P) (translation-has-file P W h) .0);
       readsBack = λ P W. code-is (writing (translate P)) (translate P) (written-stands (translate P) (translation-range P W));
     }

@@ -4,7 +4,7 @@ use mathlib.Core.List.{List, [], _∷_, _++_}
 use lib.ListN.{length}
 use mir.Syntax.{w32}
 use mir.Val.{SFits}
-use Rattle.semantics.specs.Code.{Expr, letConstant, letSlot, letDifference, jump, resume, handle, ifAtMost, letContinuation, letBoth, Target, Code}
+use Rattle.semantics.specs.Code.{Expr, letConstant, letSlot, letDifference, jump, resume, handle, ifAtMost, letContinuation, letContinuationWithHandler, Target, Code}
 use Rattle.semantics.specs.WellFormed.{All}
 use Rattle.parsing.specs.Parser.{joined}
 use Rattle.parsing.specs.Bytes.{pairBytes, valueBytes}
@@ -19,7 +19,7 @@ size (resume k y) = 3
 size (handle h) = 2
 size (ifAtMost y z e₁ e₂) = 5 + (size e₁ + size e₂)
 size (letContinuation x p e k) = 5 + (size e + size k)
-size (letBoth x p t e h k) = 8 + (size e + (size h + size k))
+size (letContinuationWithHandler x p t e h k) = 8 + (size e + (size h + size k))
 
 abbrev pub exprBytes : Expr → List ℕ
 exprBytes (letConstant x i e) = 1 ∷ x ∷ (valueBytes i ++ exprBytes e)
@@ -30,7 +30,7 @@ exprBytes (resume k y) = 5 ∷ k ∷ y ∷ []
 exprBytes (handle h) = 6 ∷ h ∷ []
 exprBytes (ifAtMost y z e₁ e₂) = 7 ∷ y ∷ z ∷ (pairBytes (size e₁) ++ (exprBytes e₁ ++ exprBytes e₂))
 exprBytes (letContinuation x p e k) = 8 ∷ x ∷ p ∷ (pairBytes (size e) ++ (exprBytes e ++ exprBytes k))
-exprBytes (letBoth x p t e h k) =
+exprBytes (letContinuationWithHandler x p t e h k) =
     9 ∷ x ∷ p ∷ t ∷ (pairBytes (size e) ++ (exprBytes e ++ (pairBytes (size h) ++ (exprBytes h ++ exprBytes k))))
 
 -- "Each function: parameter count (0 to 32), body length (16 bits), body."
@@ -50,7 +50,7 @@ ConstantsFit (resume k y) = Unit {0}
 ConstantsFit (handle h) = Unit {0}
 ConstantsFit (ifAtMost y z e₁ e₂) = ConstantsFit e₁ × ConstantsFit e₂
 ConstantsFit (letContinuation x p e k) = ConstantsFit e × ConstantsFit k
-ConstantsFit (letBoth x p t e h k) = ConstantsFit e × ConstantsFit h × ConstantsFit k
+ConstantsFit (letContinuationWithHandler x p t e h k) = ConstantsFit e × ConstantsFit h × ConstantsFit k
 
 -- "then-parts, rests of tags 8 and 9 and handler bodies nest at most 16 levels inside a function's body": an expression in a part at
 -- this level.
@@ -63,7 +63,7 @@ Nests level (resume k y) = Unit {0}
 Nests level (handle h) = Unit {0}
 Nests level (ifAtMost y z e₁ e₂) = (level < 16) × Nests (level + 1) e₁ × Nests level e₂
 Nests level (letContinuation x p e k) = (level < 16) × Nests (level + 1) e × Nests level k
-Nests level (letBoth x p t e h k) = (level < 16) × Nests (level + 1) e × Nests (level + 1) h × Nests level k
+Nests level (letContinuationWithHandler x p t e h k) = (level < 16) × Nests (level + 1) e × Nests (level + 1) h × Nests level k
 
 pub record TargetInRange (D : Target) : Type 0 where
   pub params : D .params ≤ 32

@@ -8,21 +8,21 @@ use lib.ListN.{length, getD, take, drop, length-drop, take-append-drop}
 use lib.Seq.{drop-drop, length-take-le}
 use mir.Syntax.{w32}
 use mir.Val.{SFits}
-use Rattle.semantics.specs.Code.{Expr, letConstant, letSlot, letDifference, jump, resume, handle, ifAtMost, letContinuation, letBoth, Code}
+use Rattle.semantics.specs.Code.{Expr, letConstant, letSlot, letDifference, jump, resume, handle, ifAtMost, letContinuation, letContinuationWithHandler, Code}
 use Rattle.parsing.specs.Parser.{joined}
 use Rattle.parsing.specs.Fields.{valueAt}
 use Rattle.parsing.specs.Bytes.{Bytes, pairBytes, valueBytes}
 use Rattle.parsing.specs.BytesLaws.{pair-back, value-bytes, value-fits}
-use Rattle.parsing.specs.WroteLaws.{Wrote, wrote-none, wrote-join, wrote-byte, wrote-cons, span, wrote-span}
+use Rattle.parsing.specs.BytesAtLaws.{BytesAt, bytes-at-none, bytes-at-join, bytes-at-byte, bytes-at-cons, span, bytes-at-span}
 use Rattle.target_tags.specs.declared.tag.Tag.{Tag}
-use Rattle.target_tags.specs.declared.tag.Tag.the-variants.{Constant, Copy, Difference, Jump, Resume, Handle, Branch, Continuation, Both, Refused}
+use Rattle.target_tags.specs.declared.tag.Tag.the-variants.{Constant, Copy, Difference, Jump, Resume, Handle, Branch, Continuation, ContinuationWithHandler, Refused}
 use Rattle.target_tags.specs.Tag.{pairAt, tagAt}
 use Rattle.target_tags.specs.ViewLaws.{View, isConstant, isCopy, isDifference, isJump, isResume, isHandle, isBranch, isContinuation, isBoth, isRefused, seen}
-use Rattle.target_file.specs.Layout.{slotsAt}
+use Rattle.target_layout.specs.Layout.{slotsAt}
 use Rattle.target_file.specs.Writing.{size, exprBytes, targetBytes, ConstantsFit}
-use Rattle.target_file.specs.Facts.{ExprAt}
-use Rattle.target_file.specs.PartLaws.{impossible}
-use Rattle.target_file.specs.EndLaws.{nextOf}
+use Rattle.target_file.specs.LoadedCode.{ExprAt}
+use Rattle.target_layout.specs.PartLaws.{impossible}
+use Rattle.target_layout.specs.EndLaws.{nextOf}
 use Rattle.target_file.specs.StandsLaws.{stands-inside}
 use Rattle.target_file.specs.CodeLaws.{codeSize, CodeAt}
 
@@ -38,7 +38,7 @@ fieldBytes s at (Resume k y next) = 5 ∷ k ∷ y ∷ []
 fieldBytes s at (Handle h next) = 6 ∷ h ∷ []
 fieldBytes s at (Branch y z n next) = 7 ∷ y ∷ z ∷ pairBytes n
 fieldBytes s at (Continuation x p n next) = 8 ∷ x ∷ p ∷ pairBytes n
-fieldBytes s at (Both x p t n next) = 9 ∷ x ∷ p ∷ t ∷ pairBytes n
+fieldBytes s at (ContinuationWithHandler x p t n next) = 9 ∷ x ∷ p ∷ t ∷ pairBytes n
 fieldBytes s at (Refused r) = []
 
 abbrev ValueFits : Tag → Type 0
@@ -50,13 +50,13 @@ ValueFits (Resume k y next) = Unit {0}
 ValueFits (Handle h next) = Unit {0}
 ValueFits (Branch y z n next) = Unit {0}
 ValueFits (Continuation x p n next) = Unit {0}
-ValueFits (Both x p t n next) = Unit {0}
+ValueFits (ContinuationWithHandler x p t n next) = Unit {0}
 ValueFits (Refused r) = Unit {0}
 
 module _ (s : List ℕ) (bytes : Bytes s) where
   -- The tag and its operands.
-  operands : (at k n : ℕ) → getD s at 0 ≡ k → at + (1 + n) ≤ length s → Wrote s at (at + (1 + n)) (k ∷ span s at 1 n)
-  operands at k n e h = rw (← e) (wrote-cons s (omega arith) (wrote-span s at 1 n h))
+  operands : (at k n : ℕ) → getD s at 0 ≡ k → at + (1 + n) ≤ length s → BytesAt s at (at + (1 + n)) (k ∷ span s at 1 n)
+  operands at k n e h = rw (← e) (bytes-at-cons s (omega arith) (bytes-at-span s at 1 n h))
 
   pair-is : (at : ℕ) → getD s at 0 ∷ getD s (at + 1) 0 ∷ [] ≡ pairBytes (pairAt s at)
   pair-is at = sym (pair-back (getD s at 0) (getD s (at + 1) 0) (bytes at))
@@ -73,108 +73,108 @@ module _ (s : List ℕ) (bytes : Bytes s) where
       let r : at + 5 ≡ at + 2 + 3 = omega arith in
       rw (p, q, r) (sym (value-bytes s bytes (at + 2)))
 
-  wrote-slots : (at n : ℕ) → at + n ≤ length s → Wrote s at (at + n) (slotsAt s at n)
-  wrote-slots at n h =
+  bytes-at-slots : (at n : ℕ) → at + n ≤ length s → BytesAt s at (at + n) (slotsAt s at n)
+  bytes-at-slots at n h =
       let l = length-drop at s in
       record {
         stands = sym (take-append-drop n (drop at s)) ∙ ap (λ (r : List ℕ). take n (drop at s) ++ r) (drop-drop n at s);
         past = ap (λ (k : ℕ). at + k) (sym (length-take-le n (drop at s) (omega arith)));
       }
 
-  pub wrote-pair : (at : ℕ) → at + 2 ≤ length s → Wrote s at (at + 2) (pairBytes (pairAt s at))
-  wrote-pair at h =
+  pub bytes-at-pair : (at : ℕ) → at + 2 ≤ length s → BytesAt s at (at + 2) (pairBytes (pairAt s at))
+  bytes-at-pair at h =
       let p : at + 1 + 1 ≡ at + 2 = omega arith in
-      subst (Wrote s at (at + 2)) (pair-is at) (subst (λ (j : ℕ). Wrote s at j (getD s at 0 ∷ getD s (at + 1) 0 ∷ [])) p (wrote-join s (wrote-byte s at (omega arith)) (wrote-byte s (at + 1) (omega arith))))
+      subst (BytesAt s at (at + 2)) (pair-is at) (subst (λ (j : ℕ). BytesAt s at j (getD s at 0 ∷ getD s (at + 1) 0 ∷ [])) p (bytes-at-join s (bytes-at-byte s at (omega arith)) (bytes-at-byte s (at + 1) (omega arith))))
 
-  node-wrote : (at : ℕ) {t : Tag} (next : ℕ) → View s at t → nextOf t ≡ some next → Wrote s at next (fieldBytes s at t) × ValueFits t
-  node-wrote at next (isConstant e h) w =
+  node-bytes-at : (at : ℕ) {t : Tag} (next : ℕ) → View s at t → nextOf t ≡ some next → BytesAt s at next (fieldBytes s at t) × ValueFits t
+  node-bytes-at at next (isConstant e h) w =
       let q : at + 6 ≡ next = cc in (
-        subst (λ (j : ℕ). Wrote s at j (1 ∷ getD s (at + 1) 0 ∷ valueBytes (valueAt s (at + 2)))) q
-            (subst (λ (l : List ℕ). Wrote s at (at + 6) (1 ∷ getD s (at + 1) 0 ∷ l)) (value-behind at) (operands at 1 5 e h)),
+        subst (λ (j : ℕ). BytesAt s at j (1 ∷ getD s (at + 1) 0 ∷ valueBytes (valueAt s (at + 2)))) q
+            (subst (λ (l : List ℕ). BytesAt s at (at + 6) (1 ∷ getD s (at + 1) 0 ∷ l)) (value-behind at) (operands at 1 5 e h)),
         value-fits s bytes (at + 2),
       )
-  node-wrote at next (isCopy e h) w = let q : at + 3 ≡ next = cc in (subst (λ (j : ℕ). Wrote s at j (2 ∷ span s at 1 2)) q (operands at 2 2 e h), tt)
-  node-wrote at next (isDifference e h) w = let q : at + 4 ≡ next = cc in (subst (λ (j : ℕ). Wrote s at j (3 ∷ span s at 1 3)) q (operands at 3 3 e h), tt)
-  node-wrote at next (isJump e h) w =
+  node-bytes-at at next (isCopy e h) w = let q : at + 3 ≡ next = cc in (subst (λ (j : ℕ). BytesAt s at j (2 ∷ span s at 1 2)) q (operands at 2 2 e h), tt)
+  node-bytes-at at next (isDifference e h) w = let q : at + 4 ≡ next = cc in (subst (λ (j : ℕ). BytesAt s at j (3 ∷ span s at 1 3)) q (operands at 3 3 e h), tt)
+  node-bytes-at at next (isJump e h) w =
       let n = getD s (at + 5) 0 in
       let q : at + 6 + n ≡ next = cc in
-      let o : Wrote s at (at + 6) (4 ∷ (pairBytes (pairAt s (at + 1)) ++ (getD s (at + 3) 0 ∷ getD s (at + 4) 0 ∷ n ∷ []))) =
-      subst (λ (l : List ℕ). Wrote s at (at + 6) (4 ∷ (l ++ (getD s (at + 3) 0 ∷ getD s (at + 4) 0 ∷ n ∷ [])))) (pair-behind at 1) (operands at 4 5 e (omega arith)) in
-      (subst (λ (j : ℕ). Wrote s at j (4 ∷ (pairBytes (pairAt s (at + 1)) ++ (getD s (at + 3) 0 ∷ getD s (at + 4) 0 ∷ n ∷ slotsAt s (at + 6) n)))) q (wrote-join s o (wrote-slots (at + 6) n h)), tt)
-  node-wrote at next (isResume e h) w = let q : at + 3 ≡ next = cc in (subst (λ (j : ℕ). Wrote s at j (5 ∷ span s at 1 2)) q (operands at 5 2 e h), tt)
-  node-wrote at next (isHandle e h) w = let q : at + 2 ≡ next = cc in (subst (λ (j : ℕ). Wrote s at j (6 ∷ span s at 1 1)) q (operands at 6 1 e h), tt)
-  node-wrote at next (isBranch e h) w =
+      let o : BytesAt s at (at + 6) (4 ∷ (pairBytes (pairAt s (at + 1)) ++ (getD s (at + 3) 0 ∷ getD s (at + 4) 0 ∷ n ∷ []))) =
+      subst (λ (l : List ℕ). BytesAt s at (at + 6) (4 ∷ (l ++ (getD s (at + 3) 0 ∷ getD s (at + 4) 0 ∷ n ∷ [])))) (pair-behind at 1) (operands at 4 5 e (omega arith)) in
+      (subst (λ (j : ℕ). BytesAt s at j (4 ∷ (pairBytes (pairAt s (at + 1)) ++ (getD s (at + 3) 0 ∷ getD s (at + 4) 0 ∷ n ∷ slotsAt s (at + 6) n)))) q (bytes-at-join s o (bytes-at-slots (at + 6) n h)), tt)
+  node-bytes-at at next (isResume e h) w = let q : at + 3 ≡ next = cc in (subst (λ (j : ℕ). BytesAt s at j (5 ∷ span s at 1 2)) q (operands at 5 2 e h), tt)
+  node-bytes-at at next (isHandle e h) w = let q : at + 2 ≡ next = cc in (subst (λ (j : ℕ). BytesAt s at j (6 ∷ span s at 1 1)) q (operands at 6 1 e h), tt)
+  node-bytes-at at next (isBranch e h) w =
       let q : at + 5 ≡ next = cc in (
-        subst (λ (j : ℕ). Wrote s at j (7 ∷ getD s (at + 1) 0 ∷ getD s (at + 2) 0 ∷ pairBytes (pairAt s (at + 3)))) q
-            (subst (λ (l : List ℕ). Wrote s at (at + 5) (7 ∷ getD s (at + 1) 0 ∷ getD s (at + 2) 0 ∷ l)) (pair-behind at 3) (operands at 7 4 e h)),
+        subst (λ (j : ℕ). BytesAt s at j (7 ∷ getD s (at + 1) 0 ∷ getD s (at + 2) 0 ∷ pairBytes (pairAt s (at + 3)))) q
+            (subst (λ (l : List ℕ). BytesAt s at (at + 5) (7 ∷ getD s (at + 1) 0 ∷ getD s (at + 2) 0 ∷ l)) (pair-behind at 3) (operands at 7 4 e h)),
         tt,
       )
-  node-wrote at next (isContinuation e h) w =
+  node-bytes-at at next (isContinuation e h) w =
       let q : at + 5 ≡ next = cc in (
-        subst (λ (j : ℕ). Wrote s at j (8 ∷ getD s (at + 1) 0 ∷ getD s (at + 2) 0 ∷ pairBytes (pairAt s (at + 3)))) q
-            (subst (λ (l : List ℕ). Wrote s at (at + 5) (8 ∷ getD s (at + 1) 0 ∷ getD s (at + 2) 0 ∷ l)) (pair-behind at 3) (operands at 8 4 e h)),
+        subst (λ (j : ℕ). BytesAt s at j (8 ∷ getD s (at + 1) 0 ∷ getD s (at + 2) 0 ∷ pairBytes (pairAt s (at + 3)))) q
+            (subst (λ (l : List ℕ). BytesAt s at (at + 5) (8 ∷ getD s (at + 1) 0 ∷ getD s (at + 2) 0 ∷ l)) (pair-behind at 3) (operands at 8 4 e h)),
         tt,
       )
-  node-wrote at next (isBoth e h) w =
+  node-bytes-at at next (isBoth e h) w =
       let q : at + 6 ≡ next = cc in (
-        subst (λ (j : ℕ). Wrote s at j (9 ∷ getD s (at + 1) 0 ∷ getD s (at + 2) 0 ∷ getD s (at + 3) 0 ∷ pairBytes (pairAt s (at + 4)))) q
-            (subst (λ (l : List ℕ). Wrote s at (at + 6) (9 ∷ getD s (at + 1) 0 ∷ getD s (at + 2) 0 ∷ getD s (at + 3) 0 ∷ l)) (pair-behind at 4) (operands at 9 5 e h)),
+        subst (λ (j : ℕ). BytesAt s at j (9 ∷ getD s (at + 1) 0 ∷ getD s (at + 2) 0 ∷ getD s (at + 3) 0 ∷ pairBytes (pairAt s (at + 4)))) q
+            (subst (λ (l : List ℕ). BytesAt s at (at + 6) (9 ∷ getD s (at + 1) 0 ∷ getD s (at + 2) 0 ∷ getD s (at + 3) 0 ∷ l)) (pair-behind at 4) (operands at 9 5 e h)),
         tt,
       )
-  node-wrote at next (isRefused r) w = impossible (cc)
+  node-bytes-at at next (isRefused r) w = impossible (cc)
 
-  tag-wrote : (at : ℕ) (t : Tag) (next : ℕ) → tagAt s at ≡ t → nextOf t ≡ some next → Wrote s at next (fieldBytes s at t) × ValueFits t
-  tag-wrote at t next is e = node-wrote at next (seen s at t (sym is)) e
+  tag-bytes-at : (at : ℕ) (t : Tag) (next : ℕ) → tagAt s at ≡ t → nextOf t ≡ some next → BytesAt s at next (fieldBytes s at t) × ValueFits t
+  tag-bytes-at at t next is e = node-bytes-at at next (seen s at t (sym is)) e
 
-  onward : {at m n : ℕ} {w : List ℕ} → m ≡ n → Wrote s at m w → Wrote s at n w
-  onward {at} {m} {n} {w} q r = subst (λ (j : ℕ). Wrote s at j w) q r
+  onward : {at m n : ℕ} {w : List ℕ} → m ≡ n → BytesAt s at m w → BytesAt s at n w
+  onward {at} {m} {n} {w} q r = subst (λ (j : ℕ). BytesAt s at j w) q r
 
   -- An expression that stands at an offset is written there, with constants in range.
-  pub expr-wrote : (at : ℕ) (e : Expr) → ExprAt s at e → Wrote s at (at + size e) (exprBytes e) × ConstantsFit e
-  expr-wrote at (letConstant x i e) h =
-      let a = tag-wrote at (Constant x i (at + 6)) (at + 6) (h .0) refl in
-      let b = expr-wrote (at + 6) e (h .1) in
-      (onward (omega arith) (wrote-join s (a .0) (b .0)), (a .1, b .1))
-  expr-wrote at (letSlot x y e) h =
-      let a = tag-wrote at (Copy x y (at + 3)) (at + 3) (h .0) refl in
-      let b = expr-wrote (at + 3) e (h .1) in
-      (onward (omega arith) (wrote-join s (a .0) (b .0)), b .1)
-  expr-wrote at (letDifference x y z e) h =
-      let a = tag-wrote at (Difference x y z (at + 4)) (at + 4) (h .0) refl in
-      let b = expr-wrote (at + 4) e (h .1) in
-      (onward (omega arith) (wrote-join s (a .0) (b .0)), b .1)
-  expr-wrote at (jump g k c ss) h =
-      let a = tag-wrote at (Jump g k c (length ss) (at + 6 + length ss)) (at + 6 + length ss) (h .0) refl in
-      (onward (omega arith) (subst (λ (l : List ℕ). Wrote s at (at + 6 + length ss) (4 ∷ (pairBytes g ++ (k ∷ c ∷ length ss ∷ l)))) (h .1) (a .0)), tt)
-  expr-wrote at (resume k y) h = (tag-wrote at (Resume k y (at + 3)) (at + 3) h refl .0, tt)
-  expr-wrote at (handle c) h = (tag-wrote at (Handle c (at + 2)) (at + 2) h refl .0, tt)
-  expr-wrote at (ifAtMost y z e₁ e₂) h =
-      let a = tag-wrote at (Branch y z (size e₁) (at + 5)) (at + 5) (h .0) refl in
-      let b = expr-wrote (at + 5) e₁ (h .1) in
-      let c = expr-wrote (at + 5 + size e₁) e₂ (h .2) in
-      (onward (omega arith) (wrote-join s (a .0) (wrote-join s (b .0) (c .0))), (b .1, c .1))
-  expr-wrote at (letContinuation x p e k) h =
-      let a = tag-wrote at (Continuation x p (size e) (at + 5)) (at + 5) (h .0) refl in
-      let b = expr-wrote (at + 5) e (h .1) in
-      let c = expr-wrote (at + 5 + size e) k (h .2) in
-      (onward (omega arith) (wrote-join s (a .0) (wrote-join s (b .0) (c .0))), (b .1, c .1))
-  expr-wrote at (letBoth x p t e c k) h =
+  pub expr-bytes-at : (at : ℕ) (e : Expr) → ExprAt s at e → BytesAt s at (at + size e) (exprBytes e) × ConstantsFit e
+  expr-bytes-at at (letConstant x i e) h =
+      let a = tag-bytes-at at (Constant x i (at + 6)) (at + 6) (h .0) refl in
+      let b = expr-bytes-at (at + 6) e (h .1) in
+      (onward (omega arith) (bytes-at-join s (a .0) (b .0)), (a .1, b .1))
+  expr-bytes-at at (letSlot x y e) h =
+      let a = tag-bytes-at at (Copy x y (at + 3)) (at + 3) (h .0) refl in
+      let b = expr-bytes-at (at + 3) e (h .1) in
+      (onward (omega arith) (bytes-at-join s (a .0) (b .0)), b .1)
+  expr-bytes-at at (letDifference x y z e) h =
+      let a = tag-bytes-at at (Difference x y z (at + 4)) (at + 4) (h .0) refl in
+      let b = expr-bytes-at (at + 4) e (h .1) in
+      (onward (omega arith) (bytes-at-join s (a .0) (b .0)), b .1)
+  expr-bytes-at at (jump g k c ss) h =
+      let a = tag-bytes-at at (Jump g k c (length ss) (at + 6 + length ss)) (at + 6 + length ss) (h .0) refl in
+      (onward (omega arith) (subst (λ (l : List ℕ). BytesAt s at (at + 6 + length ss) (4 ∷ (pairBytes g ++ (k ∷ c ∷ length ss ∷ l)))) (h .1) (a .0)), tt)
+  expr-bytes-at at (resume k y) h = (tag-bytes-at at (Resume k y (at + 3)) (at + 3) h refl .0, tt)
+  expr-bytes-at at (handle c) h = (tag-bytes-at at (Handle c (at + 2)) (at + 2) h refl .0, tt)
+  expr-bytes-at at (ifAtMost y z e₁ e₂) h =
+      let a = tag-bytes-at at (Branch y z (size e₁) (at + 5)) (at + 5) (h .0) refl in
+      let b = expr-bytes-at (at + 5) e₁ (h .1) in
+      let c = expr-bytes-at (at + 5 + size e₁) e₂ (h .2) in
+      (onward (omega arith) (bytes-at-join s (a .0) (bytes-at-join s (b .0) (c .0))), (b .1, c .1))
+  expr-bytes-at at (letContinuation x p e k) h =
+      let a = tag-bytes-at at (Continuation x p (size e) (at + 5)) (at + 5) (h .0) refl in
+      let b = expr-bytes-at (at + 5) e (h .1) in
+      let c = expr-bytes-at (at + 5 + size e) k (h .2) in
+      (onward (omega arith) (bytes-at-join s (a .0) (bytes-at-join s (b .0) (c .0))), (b .1, c .1))
+  expr-bytes-at at (letContinuationWithHandler x p t e c k) h =
       let o = at + 6 + size e in
       let i = stands-inside s (o + 2) c (h .3) in
-      let a = tag-wrote at (Both x p t (size e) (at + 6)) (at + 6) (h .0) refl in
-      let b = expr-wrote (at + 6) e (h .2) in
-      let l : Wrote s o (o + 2) (pairBytes (size c)) = subst (λ (n : ℕ). Wrote s o (o + 2) (pairBytes n)) (h .1) (wrote-pair o (omega arith)) in
-      let d = expr-wrote (o + 2) c (h .3) in
-      let f = expr-wrote (o + 2 + size c) k (h .4) in
-      (onward (omega arith) (wrote-join s (a .0) (wrote-join s (b .0) (wrote-join s l (wrote-join s (d .0) (f .0))))), (b .1, d .1, f .1))
+      let a = tag-bytes-at at (ContinuationWithHandler x p t (size e) (at + 6)) (at + 6) (h .0) refl in
+      let b = expr-bytes-at (at + 6) e (h .2) in
+      let l : BytesAt s o (o + 2) (pairBytes (size c)) = subst (λ (n : ℕ). BytesAt s o (o + 2) (pairBytes n)) (h .1) (bytes-at-pair o (omega arith)) in
+      let d = expr-bytes-at (o + 2) c (h .3) in
+      let f = expr-bytes-at (o + 2 + size c) k (h .4) in
+      (onward (omega arith) (bytes-at-join s (a .0) (bytes-at-join s (b .0) (bytes-at-join s l (bytes-at-join s (d .0) (f .0))))), (b .1, d .1, f .1))
 
   -- Functions that stand one after the other are written so.
-  pub code-wrote : (at : ℕ) (Q : Code) → CodeAt s at Q → Wrote s at (at + codeSize Q) (joined targetBytes Q)
-  code-wrote at [] h = onward (omega arith) (wrote-none s at)
-  code-wrote at (D ∷ Q) h =
+  pub code-bytes-at : (at : ℕ) (Q : Code) → CodeAt s at Q → BytesAt s at (at + codeSize Q) (joined targetBytes Q)
+  code-bytes-at at [] h = onward (omega arith) (bytes-at-none s at)
+  code-bytes-at at (D ∷ Q) h =
       let i = stands-inside s (at + 3) (D .body) (h .2) in
-      let a : Wrote s at (at + 1) (D .params ∷ []) = subst (λ (n : ℕ). Wrote s at (at + 1) (n ∷ [])) (h .0) (wrote-byte s at (omega arith)) in
-      let b : Wrote s (at + 1) (at + 3) (pairBytes (size (D .body))) = onward (omega arith) (subst (λ (n : ℕ). Wrote s (at + 1) (at + 1 + 2) (pairBytes n)) (h .1) (wrote-pair (at + 1) (omega arith))) in
-      let c = expr-wrote (at + 3) (D .body) (h .2) in
-      let d = code-wrote (at + 3 + size (D .body)) Q (h .3) in
-      onward (omega arith) (wrote-join s (wrote-join s a (wrote-join s b (c .0))) d)
+      let a : BytesAt s at (at + 1) (D .params ∷ []) = subst (λ (n : ℕ). BytesAt s at (at + 1) (n ∷ [])) (h .0) (bytes-at-byte s at (omega arith)) in
+      let b : BytesAt s (at + 1) (at + 3) (pairBytes (size (D .body))) = onward (omega arith) (subst (λ (n : ℕ). BytesAt s (at + 1) (at + 1 + 2) (pairBytes n)) (h .1) (bytes-at-pair (at + 1) (omega arith))) in
+      let c = expr-bytes-at (at + 3) (D .body) (h .2) in
+      let d = code-bytes-at (at + 3 + size (D .body)) Q (h .3) in
+      onward (omega arith) (bytes-at-join s (bytes-at-join s a (bytes-at-join s b (c .0))) d)

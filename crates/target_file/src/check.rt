@@ -1,14 +1,14 @@
 // The checker of translated files.
-use crate::layout;
 use crate::tables;
+use casts::pair;
 use parsing::Checked;
 use parsing::Refusal;
 use parsing::Scan;
-use target_tags::tag;
+use target_layout::layout;
 ghost use mathlib.Core.Path.{_≡_};
 ghost use mathlib.Core.Bool.{true};
 ghost use Rattle.parsing.specs.Parser.{verdictOf};
-ghost use Rattle.target_file.specs.Layout.{code};
+ghost use Rattle.target_layout.specs.Layout.{code};
 ghost use Rattle.target_file.specs.Check.{verdict, arities, codeOf, checkOf};
 ghost use Rattle.target_file.specs.Tables.{LaidOut};
 
@@ -19,7 +19,7 @@ fn names_checked(file: &[u8]) -> Checked
 {
     let tables = tables::tables_of(file);
     let params = tables.params;
-    let n = tag::pair(file[5], file[6]);
+    let n = pair(file[5], file[6]);
     match layout::code_end(file, &params[..n], true) {
         Scan::Past(_) => Checked::Accepted,
         Scan::Stopped(r) => Checked::Refused(r),

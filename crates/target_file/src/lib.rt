@@ -1,4 +1,3 @@
 // Translated files (`SPC`): bytes and code, the checker, the table of function bodies.
 pub mod check;
-pub mod layout;
 pub mod tables;

@@ -1,5 +1,5 @@
 // The tables of an accepted layout, filled once: where the functions' bodies stand, and their numbers of parameters.
-use target_tags::tag;
+use casts::pair;
 ghost use mathlib.Core.Path.{_≡_};
 ghost use Rattle.target_file.specs.Tables.{LaidOut, Tabled};
 
@@ -12,7 +12,7 @@ pub fn tables_of(file: &[u8]) -> Tables
     requires { ⌜ LaidOut (now file) ⌝ }
     ensures { λ r. ⌜ Tabled (now (file .entry)) (r .starts) (r .params) ⌝ }
 {
-    let n = tag::pair(file[5], file[6]);
+    let n = pair(file[5], file[6]);
     let mut starts = [0u16; 2048];
     let mut params = [0u8; 2048];
     let mut at = 7;
@@ -22,7 +22,7 @@ pub fn tables_of(file: &[u8]) -> Tables
         params[i] = file[at];
         starts[i] = body as u16;
         let field = at + 1;
-        at = body + tag::pair(file[field], file[field + 1]);
+        at = body + pair(file[field], file[field + 1]);
         i += 1;
     }
     Tables { starts, params }

@@ -1,3 +1,2 @@
-// The tags of translated files (`SPC`): the node at an offset, and the names in it.
-pub mod names;
+// The tags of translated files (`SPC`): the node at an offset.
 pub mod tag;

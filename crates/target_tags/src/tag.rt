@@ -1,9 +1,11 @@
 // The node at an offset, by its tag.
+use casts::byte_number;
+use casts::pair;
 use parsing::Refusal;
 ghost use mathlib.Core.Path.{_≡_};
 ghost use lib.ListN.{length};
 ghost use Prim.Native.Nat.{_+_, _*_, _<_};
-ghost use Rattle.target_tags.specs.Tag.{tagAt, constantAt, copyAt, differenceAt, jumpAt, resumeAt, handleAt, branchAt, continuationAt, bothAt};
+ghost use Rattle.target_tags.specs.Tag.{tagAt, constantAt, copyAt, differenceAt, jumpAt, resumeAt, handleAt, branchAt, continuationAt, continuationWithHandlerAt};
 
 // A node as it stands in the file: its fields, and the offset past them. Its names are not judged here.
 pub enum Tag {
@@ -51,7 +53,7 @@ pub enum Tag {
         size: usize,
         next: usize,
     },
-    Both {
+    ContinuationWithHandler {
         slot: usize,
         parameter: usize,
         handler: usize,
@@ -70,20 +72,6 @@ fn cut(file: &[u8]) -> Tag
     })
 }
 
-// A byte as a number.
-pub fn wide(b: u8) -> usize
-    ensures { λ r. ⌜ r ≡ b ⌝ }
-{
-    b as usize
-}
-
-// The number of a field of two bytes, the low byte first.
-pub fn pair(low: u8, high: u8) -> usize
-    ensures { λ r. ⌜ r ≡ low + 256 * high ⌝ }
-{
-    (low as usize) + 256 * (high as usize)
-}
-
 fn constant_at(file: &[u8], at: usize) -> Tag
     requires { ⌜ at < length (now file) ⌝ }
     ensures { λ r. ⌜ r ≡ constantAt (now (file .entry)) at ⌝ }
@@ -92,7 +80,7 @@ fn constant_at(file: &[u8], at: usize) -> Tag
     if file.len() < next {
         return cut(file);
     }
-    let slot = wide(file[at + 1]);
+    let slot = byte_number(file[at + 1]);
     let i = at + 2;
     let value = parsing::value(file[i], file[i + 1], file[i + 2], file[i + 3]);
     Tag::Constant { slot, value, next }
@@ -106,8 +94,8 @@ fn copy_at(file: &[u8], at: usize) -> Tag
     if file.len() < next {
         return cut(file);
     }
-    let slot = wide(file[at + 1]);
-    let from = wide(file[at + 2]);
+    let slot = byte_number(file[at + 1]);
+    let from = byte_number(file[at + 2]);
     Tag::Copy { slot, from, next }
 }
 
@@ -119,9 +107,9 @@ fn difference_at(file: &[u8], at: usize) -> Tag
     if file.len() < next {
         return cut(file);
     }
-    let slot = wide(file[at + 1]);
-    let left = wide(file[at + 2]);
-    let right = wide(file[at + 3]);
+    let slot = byte_number(file[at + 1]);
+    let left = byte_number(file[at + 2]);
+    let right = byte_number(file[at + 3]);
     Tag::Difference {
         slot,
         left,
@@ -138,15 +126,15 @@ fn jump_at(file: &[u8], at: usize) -> Tag
     if file.len() < values {
         return cut(file);
     }
-    let count = wide(file[at + 5]);
+    let count = byte_number(file[at + 5]);
     let next = values + count;
     if file.len() < next {
         return cut(file);
     }
     let field = at + 1;
     let function = pair(file[field], file[field + 1]);
-    let continuation = wide(file[at + 3]);
-    let handler = wide(file[at + 4]);
+    let continuation = byte_number(file[at + 3]);
+    let handler = byte_number(file[at + 4]);
     Tag::Jump {
         function,
         continuation,
@@ -164,8 +152,8 @@ fn resume_at(file: &[u8], at: usize) -> Tag
     if file.len() < next {
         return cut(file);
     }
-    let continuation = wide(file[at + 1]);
-    let value = wide(file[at + 2]);
+    let continuation = byte_number(file[at + 1]);
+    let value = byte_number(file[at + 2]);
     Tag::Resume {
         continuation,
         value,
@@ -181,7 +169,7 @@ fn handle_at(file: &[u8], at: usize) -> Tag
     if file.len() < next {
         return cut(file);
     }
-    let handler = wide(file[at + 1]);
+    let handler = byte_number(file[at + 1]);
     Tag::Handle { handler, next }
 }
 
@@ -193,8 +181,8 @@ fn branch_at(file: &[u8], at: usize) -> Tag
     if file.len() < next {
         return cut(file);
     }
-    let left = wide(file[at + 1]);
-    let right = wide(file[at + 2]);
+    let left = byte_number(file[at + 1]);
+    let right = byte_number(file[at + 2]);
     let field = at + 3;
     let size = pair(file[field], file[field + 1]);
     Tag::Branch {
@@ -213,8 +201,8 @@ fn continuation_at(file: &[u8], at: usize) -> Tag
     if file.len() < next {
         return cut(file);
     }
-    let slot = wide(file[at + 1]);
-    let parameter = wide(file[at + 2]);
+    let slot = byte_number(file[at + 1]);
+    let parameter = byte_number(file[at + 2]);
     let field = at + 3;
     let size = pair(file[field], file[field + 1]);
     Tag::Continuation {
@@ -225,20 +213,20 @@ fn continuation_at(file: &[u8], at: usize) -> Tag
     }
 }
 
-fn both_at(file: &[u8], at: usize) -> Tag
+fn continuation_with_handler_at(file: &[u8], at: usize) -> Tag
     requires { ⌜ at < length (now file) ⌝ }
-    ensures { λ r. ⌜ r ≡ bothAt (now (file .entry)) at ⌝ }
+    ensures { λ r. ⌜ r ≡ continuationWithHandlerAt (now (file .entry)) at ⌝ }
 {
     let next = at + 6;
     if file.len() < next {
         return cut(file);
     }
-    let slot = wide(file[at + 1]);
-    let parameter = wide(file[at + 2]);
-    let handler = wide(file[at + 3]);
+    let slot = byte_number(file[at + 1]);
+    let parameter = byte_number(file[at + 2]);
+    let handler = byte_number(file[at + 3]);
     let field = at + 4;
     let size = pair(file[field], file[field + 1]);
-    Tag::Both {
+    Tag::ContinuationWithHandler {
         slot,
         parameter,
         handler,
@@ -263,7 +251,7 @@ pub fn tag_at(file: &[u8], at: usize) -> Tag
         6 => handle_at(file, at),
         7 => branch_at(file, at),
         8 => continuation_at(file, at),
-        9 => both_at(file, at),
+        9 => continuation_with_handler_at(file, at),
         _ => Tag::Refused(Refusal {
             number: 6,
             place: at,

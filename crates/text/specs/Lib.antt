@@ -1,6 +1,7 @@
--- The lines that program `both` prints. Definitions: Text, Wrote. Laws: TextLaws, SizeLaws. Computed: Cases.
+-- The lines that program `both` prints. Definitions: Text, WroteText. Computed: Cases.
 pub mod Text
-pub mod Wrote
+pub mod WroteText
+pub mod Cases
+-- Laws.
 pub mod TextLaws
 pub mod SizeLaws
-pub mod Cases

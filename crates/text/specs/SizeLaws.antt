@@ -30,15 +30,15 @@ wide-same v h = toZ-ofZ (wide-fits v h) ∙ toZ-ofZ h
 
 -- x is a negative value v with its sign turned.
 pub record Turned (x v : ℤ) : Type 0 where
-  pub wide : SFits w64 x
+  pub fits64 : SFits w64 x
   pub plain : Plain (toZ w64 (ofZ w64 x))
   pub same : natAbs (toZ w64 (ofZ w64 x)) ≡ natAbs v
 
 turned-as : (n : ℕ) (x : ℤ) → x ≡ pos (suc n) → n < 2147483648 → Turned x (negsuc n)
-turned-as n x e h = subst (λ (y : ℤ). Turned y (negsuc n)) (sym e) (record { wide = wide; plain = subst (λ (y : ℤ). Plain y) (sym (toZ-ofZ wide)) (record { sign = tt; fits = omega arith }); same = ap natAbs (toZ-ofZ wide) })
+turned-as n x e h = subst (λ (y : ℤ). Turned y (negsuc n)) (sym e) (record { fits64 = fits64; plain = subst (λ (y : ℤ). Plain y) (sym (toZ-ofZ fits64)) (record { sign = tt; fits = omega arith }); same = ap natAbs (toZ-ofZ fits64) })
   where
-    wide : SFits w64 (pos (suc n))
-    wide = record { sfits = omega arith }
+    fits64 : SFits w64 (pos (suc n))
+    fits64 = record { sfits = omega arith }
 
 pub turned : (v : ℤ) → SFits w32 v → ltZ v (pos 0) ≡ true → Turned (pos 0 -ℤ toZ w64 (ofZ w64 (toZ w32 (ofZ w32 v)))) v
 turned (pos n) h t = let l : n < 0 = ltb-true n 0 t in absurd (omega arith)

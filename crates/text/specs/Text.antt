@@ -5,8 +5,8 @@ use mathlib.Core.List.{List, [], _∷_, _++_}
 use lib.Dec.{ltb}
 use lib.IntN.{ℤ, pos, negsuc}
 use Rattle.semantics.specs.Run.{value, uncaught, Stop, ended, spent, deep, broken}
-use Rattle.text.specs.declared.Ended.{Ended}
-use Rattle.text.specs.declared.Ended.the-variants.{Value, Uncaught, Spent, Deep}
+use Rattle.text.specs.declared.Stopped.{Stopped}
+use Rattle.text.specs.declared.Stopped.the-variants.{Value, Uncaught, Spent, Deep}
 
 -- The decimal digits of n, at most k and one more; 48 is `0`.
 unfoldable pub digits : ℕ → ℕ → List ℕ
@@ -103,8 +103,8 @@ abbrev pub noHeaderText : List ℕ
 noHeaderText = 110 ∷ 111 ∷ 32 ∷ 104 ∷ 101 ∷ 97 ∷ 100 ∷ 101 ∷ 114 ∷ 10 ∷ []
 
 -- How a run stopped, as the code tells it.
-unfoldable pub endedAs : Ended → Stop (Unit {0})
-endedAs (Value z) = ended (value z)
-endedAs Uncaught = ended uncaught
-endedAs Spent = spent tt
-endedAs Deep = deep tt
+unfoldable pub stoppedAs : Stopped → Stop (Unit {0})
+stoppedAs (Value z) = ended (value z)
+stoppedAs Uncaught = ended uncaught
+stoppedAs Spent = spent tt
+stoppedAs Deep = deep tt

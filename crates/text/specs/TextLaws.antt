@@ -14,20 +14,20 @@ use borrow.Author.Tests.{ltb-true, lt-ltb, le-ltb}
 use Rattle.semantics.specs.Run.{value, uncaught, Stop, ended, spent, deep, broken}
 use Rattle.memory.specs.Lay.{lay}
 use Rattle.memory.specs.LayLaws.{length-lay, join, lay-one, Copied, copied-more, copied-all}
-use Rattle.text.specs.declared.Ended.{Ended}
-use Rattle.text.specs.declared.Ended.the-variants.{Value, Uncaught, Spent, Deep}
-use Rattle.text.specs.Text.{digits, decimal, signed, numbered, stopText, machineLine, targetLine, endedAs, valueWord, uncaughtWord, spentWord, deepWord, stepsWord, targetWord, space, newline}
-use Rattle.text.specs.Wrote.{Wrote}
+use Rattle.text.specs.declared.Stopped.{Stopped}
+use Rattle.text.specs.declared.Stopped.the-variants.{Value, Uncaught, Spent, Deep}
+use Rattle.text.specs.Text.{digits, decimal, signed, numbered, stopText, machineLine, targetLine, stoppedAs, valueWord, uncaughtWord, spentWord, deepWord, stepsWord, targetWord, space, newline}
+use Rattle.text.specs.WroteText.{WroteText}
 
 -- The lent bytes stay as many.
-pub wrote-long : {at r : ℕ} {w d d′ : List ℕ} → Wrote at w d r d′ → length d′ ≡ length d
+pub wrote-long : {at r : ℕ} {w d d′ : List ℕ} → WroteText at w d r d′ → length d′ ≡ length d
 wrote-long {at} {r} {w} {d} {d′} k =
     let p : r ≡ at + length w = k .past in
     let l : r ≤ length d = k .within in
     ap length (k .same) ∙ length-lay at w d (omega arith)
 
 -- Two writes, one behind the other.
-pub wrote-then : {at r r₂ : ℕ} {a b d d₁ d₂ : List ℕ} → Wrote at a d r d₁ → Wrote r b d₁ r₂ d₂ → Wrote at (a ++ b) d r₂ d₂
+pub wrote-then : {at r r₂ : ℕ} {a b d d₁ d₂ : List ℕ} → WroteText at a d r d₁ → WroteText r b d₁ r₂ d₂ → WroteText at (a ++ b) d r₂ d₂
 wrote-then {at} {r} {r₂} {a} {b} {d} {d₁} {d₂} k l =
     let p : r ≡ at + length a = k .past in
     let q : r₂ ≡ r + length b = l .past in
@@ -38,14 +38,14 @@ wrote-then {at} {r} {r₂} {a} {b} {d} {d₁} {d₂} k l =
     record { same = join at r a b (a ++ b) d d₁ d₂ (k .same) (l .same) p refl (omega arith); past = omega arith; within = omega arith }
 
 -- One byte.
-pub wrote-one : (at x : ℕ) (d : List ℕ) → at < length d → Wrote at (x ∷ []) d (at + 1) (set d at x)
+pub wrote-one : (at x : ℕ) (d : List ℕ) → at < length d → WroteText at (x ∷ []) d (at + 1) (set d at x)
 wrote-one at x d h = record { same = lay-one at x d h; past = refl; within = omega arith }
 
 -- A word, copied byte by byte.
 pub word-more : (at i : ℕ) (word d₀ d : List ℕ) → Copied 0 at (length word) i word d₀ d → i < length word → Copied 0 at (length word) (i + 1) word d₀ (set d (at + i) (getD word i 0))
 word-more at i word d₀ d k h = copied-more 0 at (length word) i word d₀ d 0 (getD word i 0) (ap (λ (j : ℕ). getD word j 0) (sym (zero-add i))) k h
 
-pub wrote-word : (at i : ℕ) (word d d′ : List ℕ) → Copied 0 at (length word) i word d d′ → length word ≤ i → Wrote at word d (at + length word) d′
+pub wrote-word : (at i : ℕ) (word d d′ : List ℕ) → Copied 0 at (length word) i word d d′ → length word ≤ i → WroteText at word d (at + length word) d′
 wrote-word at i word d d′ k h =
     let l : at + length word ≤ length d = k .target in
     record { same = copied-all 0 at (length word) i word d d′ k h ∙ ap (λ (w : List ℕ). lay at w d) (take-length word); past = refl; within = l }
@@ -123,11 +123,11 @@ length-target n =
     omega arith
 
 -- The same text, said otherwise.
-pub wrote-as : {at r : ℕ} {a b d d′ : List ℕ} → a ≡ b → Wrote at a d r d′ → Wrote at b d r d′
-wrote-as {at} {r} {a} {b} {d} {d′} e k = subst (λ (w : List ℕ). Wrote at w d r d′) e k
+pub wrote-as : {at r : ℕ} {a b d d′ : List ℕ} → a ≡ b → WroteText at a d r d′ → WroteText at b d r d′
+wrote-as {at} {r} {a} {b} {d} {d′} e k = subst (λ (w : List ℕ). WroteText at w d r d′) e k
 
 -- Room for what is written behind a text.
-pub wrote-room : {at r : ℕ} {w d d′ : List ℕ} (n m : ℕ) → Wrote at w d r d′ → length w ≤ n → at + (n + m) ≤ length d → r + m ≤ length d′
+pub wrote-room : {at r : ℕ} {w d d′ : List ℕ} (n m : ℕ) → WroteText at w d r d′ → length w ≤ n → at + (n + m) ≤ length d → r + m ≤ length d′
 wrote-room {at} {r} {w} {d} {d′} n m k h l =
     let p : r ≡ at + length w = k .past in
     let e : length d′ ≡ length d = wrote-long k in
@@ -145,18 +145,18 @@ signed-plus (pos k) n e t = ap decimal e
 signed-plus (negsuc k) n e t = let z : _≡_ {A = ℕ} 0 1 = cc in absurd (omega arith)
 
 -- How a run stopped, as the code has it.
-pub ended-value : (e : Ended) (x z : ℤ) → e ≡ Value z → x ≡ z → valueWord ++ signed x ≡ stopText (endedAs e)
-unfolding stopText endedAs
-ended-value e x z p q = ap (λ (y : ℤ). valueWord ++ signed y) q ∙ ap (λ (y : Ended). stopText (endedAs y)) (sym p)
+pub ended-value : (e : Stopped) (x z : ℤ) → e ≡ Value z → x ≡ z → valueWord ++ signed x ≡ stopText (stoppedAs e)
+unfolding stopText stoppedAs
+ended-value e x z p q = ap (λ (y : ℤ). valueWord ++ signed y) q ∙ ap (λ (y : Stopped). stopText (stoppedAs y)) (sym p)
 
-pub ended-uncaught : (e : Ended) → e ≡ Uncaught → uncaughtWord ≡ stopText (endedAs e)
-unfolding stopText endedAs
-ended-uncaught e p = ap (λ (y : Ended). stopText (endedAs y)) (sym p)
+pub ended-uncaught : (e : Stopped) → e ≡ Uncaught → uncaughtWord ≡ stopText (stoppedAs e)
+unfolding stopText stoppedAs
+ended-uncaught e p = ap (λ (y : Stopped). stopText (stoppedAs y)) (sym p)
 
-pub ended-spent : (e : Ended) → e ≡ Spent → spentWord ≡ stopText (endedAs e)
-unfolding stopText endedAs
-ended-spent e p = ap (λ (y : Ended). stopText (endedAs y)) (sym p)
+pub ended-spent : (e : Stopped) → e ≡ Spent → spentWord ≡ stopText (stoppedAs e)
+unfolding stopText stoppedAs
+ended-spent e p = ap (λ (y : Stopped). stopText (stoppedAs y)) (sym p)
 
-pub ended-deep : (e : Ended) → e ≡ Deep → deepWord ≡ stopText (endedAs e)
-unfolding stopText endedAs
-ended-deep e p = ap (λ (y : Ended). stopText (endedAs y)) (sym p)
+pub ended-deep : (e : Stopped) → e ≡ Deep → deepWord ≡ stopText (stoppedAs e)
+unfolding stopText stoppedAs
+ended-deep e p = ap (λ (y : Stopped). stopText (stoppedAs y)) (sym p)

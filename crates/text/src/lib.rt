@@ -4,11 +4,11 @@ ghost use mathlib.Core.List.{[], _∷_};
 ghost use mathlib.Core.Path.{_≡_};
 ghost use lib.IntN.{natAbs};
 ghost use lib.ListN.{length};
-ghost use Rattle.text.specs.Text.{digits, decimal, signed, numbered, stopText, machineLine, targetLine, bothText, refusedText, noHeaderText, endedAs};
-ghost use Rattle.text.specs.Wrote.{Wrote};
+ghost use Rattle.text.specs.Text.{digits, decimal, signed, numbered, stopText, machineLine, targetLine, bothText, refusedText, noHeaderText, stoppedAs};
+ghost use Rattle.text.specs.WroteText.{WroteText};
 
 // How a run stopped.
-pub enum Ended {
+pub enum Stopped {
     Value(i32),
     Uncaught,
     Spent,
@@ -18,7 +18,7 @@ pub enum Ended {
 // A word.
 fn put_bytes(out: &mut [u8], at: usize, word: &[u8]) -> usize
     requires { ⌜ at + length (now word) ≤ length (now out) ⌝ }
-    ensures { λ r. ⌜ Wrote at (now (word .entry)) (now (out .entry)) r (now (out .exit)) ⌝ }
+    ensures { λ r. ⌜ WroteText at (now (word .entry)) (now (out .entry)) r (now (out .exit)) ⌝ }
 {
     let mut i = 0;
     while i < word.len() {
@@ -32,7 +32,7 @@ fn put_bytes(out: &mut [u8], at: usize, word: &[u8]) -> usize
 // One digit.
 fn put_digit(out: &mut [u8], at: usize, n: u64) -> usize
     requires { ⌜ (at < length (now out)) × (n < 10) ⌝ }
-    ensures { λ r. ⌜ Wrote at ((48 + n) ∷ []) (now (out .entry)) r (now (out .exit)) ⌝ }
+    ensures { λ r. ⌜ WroteText at ((48 + n) ∷ []) (now (out .entry)) r (now (out .exit)) ⌝ }
 {
     let digit = 48 + n;
     out[at] = digit as u8;
@@ -42,7 +42,7 @@ fn put_digit(out: &mut [u8], at: usize, n: u64) -> usize
 // The digits of n, at most k and one more.
 fn put_digits(out: &mut [u8], at: usize, k: usize, n: u64) -> usize
     requires { ⌜ at + (k + 1) ≤ length (now out) ⌝ }
-    ensures { λ r. ⌜ Wrote at (digits k n) (now (out .entry)) r (now (out .exit)) ⌝ }
+    ensures { λ r. ⌜ WroteText at (digits k n) (now (out .entry)) r (now (out .exit)) ⌝ }
 {
     if k == 0 {
         return put_digit(out, at, n % 10);
@@ -58,7 +58,7 @@ fn put_digits(out: &mut [u8], at: usize, k: usize, n: u64) -> usize
 // A number in decimal.
 fn put_decimal(out: &mut [u8], at: usize, n: u64) -> usize
     requires { ⌜ at + 20 ≤ length (now out) ⌝ }
-    ensures { λ r. ⌜ Wrote at (decimal n) (now (out .entry)) r (now (out .exit)) ⌝ }
+    ensures { λ r. ⌜ WroteText at (decimal n) (now (out .entry)) r (now (out .exit)) ⌝ }
 {
     put_digits(out, at, 19, n)
 }
@@ -77,7 +77,7 @@ pub fn magnitude(v: i32) -> u64
 // A value in decimal.
 fn put_signed(out: &mut [u8], at: usize, v: i32) -> usize
     requires { ⌜ at + 21 ≤ length (now out) ⌝ }
-    ensures { λ r. ⌜ Wrote at (signed v) (now (out .entry)) r (now (out .exit)) ⌝ }
+    ensures { λ r. ⌜ WroteText at (signed v) (now (out .entry)) r (now (out .exit)) ⌝ }
 {
     let n = magnitude(v);
     if v < 0 {
@@ -90,36 +90,36 @@ fn put_signed(out: &mut [u8], at: usize, v: i32) -> usize
 // A word and a number behind it.
 fn put_numbered(out: &mut [u8], at: usize, word: &[u8], n: u64) -> usize
     requires { ⌜ at + length (now word) + 20 ≤ length (now out) ⌝ }
-    ensures { λ r. ⌜ Wrote at (numbered (now (word .entry)) n) (now (out .entry)) r (now (out .exit)) ⌝ }
+    ensures { λ r. ⌜ WroteText at (numbered (now (word .entry)) n) (now (out .entry)) r (now (out .exit)) ⌝ }
 {
     let next = put_bytes(out, at, word);
     put_decimal(out, next, n)
 }
 
 // How a run stopped.
-fn put_ended(out: &mut [u8], at: usize, e: Ended) -> usize
+fn put_stopped(out: &mut [u8], at: usize, e: Stopped) -> usize
     requires { ⌜ at + 27 ≤ length (now out) ⌝ }
-    ensures { λ r. ⌜ Wrote at (stopText (endedAs e)) (now (out .entry)) r (now (out .exit)) ⌝ }
+    ensures { λ r. ⌜ WroteText at (stopText (stoppedAs e)) (now (out .entry)) r (now (out .exit)) ⌝ }
 {
     match e {
-        Ended::Value(v) => {
+        Stopped::Value(v) => {
             let next = put_bytes(out, at, b"value ");
             put_signed(out, next, v)
         }
-        Ended::Uncaught => put_bytes(out, at, b"uncaught"),
-        Ended::Spent => put_bytes(out, at, b"spent"),
-        Ended::Deep => put_bytes(out, at, b"deep"),
+        Stopped::Uncaught => put_bytes(out, at, b"uncaught"),
+        Stopped::Spent => put_bytes(out, at, b"spent"),
+        Stopped::Deep => put_bytes(out, at, b"deep"),
     }
 }
 
 // A machine's end and steps.
-fn put_machine(out: &mut [u8], at: usize, name: &[u8], e: Ended, steps: u64) -> usize
+fn put_machine(out: &mut [u8], at: usize, name: &[u8], e: Stopped, steps: u64) -> usize
     requires { ⌜ at + length (now name) + 56 ≤ length (now out) ⌝ }
-    ensures { λ r. ⌜ Wrote at (machineLine (now (name .entry)) (endedAs e) steps) (now (out .entry)) r (now (out .exit)) ⌝ }
+    ensures { λ r. ⌜ WroteText at (machineLine (now (name .entry)) (stoppedAs e) steps) (now (out .entry)) r (now (out .exit)) ⌝ }
 {
     let named = put_bytes(out, at, name);
     let spaced = put_bytes(out, named, b" ");
-    let told = put_ended(out, spaced, e);
+    let told = put_stopped(out, spaced, e);
     let counted = put_numbered(out, told, b" steps ", steps);
     put_bytes(out, counted, b"\n")
 }
@@ -127,7 +127,7 @@ fn put_machine(out: &mut [u8], at: usize, name: &[u8], e: Ended, steps: u64) -> 
 // The count of the translation's bytes.
 fn put_target(out: &mut [u8], at: usize, n: u64) -> usize
     requires { ⌜ at + 28 ≤ length (now out) ⌝ }
-    ensures { λ r. ⌜ Wrote at (targetLine n) (now (out .entry)) r (now (out .exit)) ⌝ }
+    ensures { λ r. ⌜ WroteText at (targetLine n) (now (out .entry)) r (now (out .exit)) ⌝ }
 {
     let next = put_numbered(out, at, b"target ", n);
     put_bytes(out, next, b"\n")
@@ -137,13 +137,13 @@ fn put_target(out: &mut [u8], at: usize, n: u64) -> usize
 pub fn write_both(
     out: &mut [u8],
     target: u64,
-    b: Ended,
+    b: Stopped,
     bsteps: u64,
-    c: Ended,
+    c: Stopped,
     csteps: u64,
 ) -> usize
     requires { ⌜ 256 ≤ length (now out) ⌝ }
-    ensures { λ r. ⌜ Wrote 0 (bothText target (endedAs b) bsteps (endedAs c) csteps) (now (out .entry)) r (now (out .exit)) ⌝ }
+    ensures { λ r. ⌜ WroteText 0 (bothText target (stoppedAs b) bsteps (stoppedAs c) csteps) (now (out .entry)) r (now (out .exit)) ⌝ }
 {
     let first = put_target(out, 0, target);
     let second = put_machine(out, first, b"bench", b, bsteps);
@@ -153,7 +153,7 @@ pub fn write_both(
 // The line of a refusal.
 pub fn write_refused(out: &mut [u8], number: u64, place: u64) -> usize
     requires { ⌜ 256 ≤ length (now out) ⌝ }
-    ensures { λ r. ⌜ Wrote 0 (refusedText number place) (now (out .entry)) r (now (out .exit)) ⌝ }
+    ensures { λ r. ⌜ WroteText 0 (refusedText number place) (now (out .entry)) r (now (out .exit)) ⌝ }
 {
     let first = put_numbered(out, 0, b"refused ", number);
     let second = put_numbered(out, first, b" at ", place);
@@ -163,7 +163,7 @@ pub fn write_refused(out: &mut [u8], number: u64, place: u64) -> usize
 // The line of an input that ends inside its first four fields.
 pub fn write_no_header(out: &mut [u8]) -> usize
     requires { ⌜ 256 ≤ length (now out) ⌝ }
-    ensures { λ r. ⌜ Wrote 0 noHeaderText (now (out .entry)) r (now (out .exit)) ⌝ }
+    ensures { λ r. ⌜ WroteText 0 noHeaderText (now (out .entry)) r (now (out .exit)) ⌝ }
 {
     put_bytes(out, 0, b"no header\n")
 }

@@ -13,7 +13,7 @@ use Rattle.parsing.specs.declared.Checked.the-variants.{Accepted, Refused}
 use Rattle.parsing.specs.Parser.{Verdict, accepted, refused, verdictOf}
 use Rattle.procedure_file.specs.Check.{checkOf}
 use Rattle.translator.specs.Translated.{translationOf, Outcome, written, turnedDown, fitting, judged, answerOf, leaves, outputOf}
-use Rattle.translator.specs.Writes.{Room, Wrote}
+use Rattle.translator_bytes.specs.Writes.{Room, Wrote}
 
 -- Written at the front: the part, then what stood behind it.
 pub lay-front : (w d : List ℕ) → lay 0 w d ≡ w ++ drop (length w) d

@@ -9,25 +9,25 @@ use lib.IntN.{ℤ}
 use Rattle.parsing.specs.Fields.{valueAt}
 use Rattle.parsing.specs.Bytes.{valueBytes}
 use Rattle.semantics.specs.Translation.{number}
-use Rattle.procedure_layout.specs.declared.operation.Operation.{Operation}
-use Rattle.procedure_layout.specs.declared.operation.Operation.the-variants.{Constant, Copy, Difference, Call, Goto, Return, Branch, Raise, Refused}
+use Rattle.procedure_operations.specs.declared.operation.Operation.{Operation}
+use Rattle.procedure_operations.specs.declared.operation.Operation.the-variants.{Constant, Copy, Difference, Call, Goto, Return, Branch, Raise, Refused}
 use Rattle.procedure_layout.specs.declared.layout.After.{After}
 use Rattle.procedure_layout.specs.declared.layout.After.the-variants.{Onward, Ended, Halted}
-use Rattle.procedure_layout.specs.Operation.{operationAt}
+use Rattle.procedure_operations.specs.Operation.{operationAt}
 use Rattle.procedure_layout.specs.After.{afterOf}
 use Rattle.procedure_file.specs.Check.{programOf}
-use Rattle.translator.specs.Bytes.{tabled, operationBytes, operationSize}
+use Rattle.translator_bytes.specs.Bytes.{tabled, operationBytes, operationSize}
 use Rattle.translator.specs.Parts.{bytesAt}
-use Rattle.translator.specs.Writes.{Room, Wrote}
-use Rattle.translator.specs.WriteLaws.{Rest, rest-none, rest-as, rest-room, rest-more, rest-done, room-front}
-use Rattle.translator.specs.Ready.{Here, Numbered, Placed, Few, BlockSize}
-use Rattle.translator.specs.OperationLaws.{Fine, few-variables, within, fine, few-of, operation-size, same-numbers, following, split-at}
+use Rattle.translator_bytes.specs.Writes.{Room, Wrote}
+use Rattle.translator_bytes.specs.WriteLaws.{Rest, rest-none, rest-as, rest-room, rest-more, rest-done, room-front}
+use Rattle.translator.specs.Standing.{OperationStands, Numbered, Placed, CountInTable, BlockSize}
+use Rattle.translator.specs.OperationLaws.{Fine, variables-bound, within, fine, of-bound, operation-size, same-numbers, following, split-at}
 
 -- An operation does not end the block: the next one stands where it leads.
-pub goes-on : {s : List ℕ} {v at m : ℕ} → Here s v at → afterOf (operationAt s at) ≡ Onward m → Here s v m
-goes-on {s} {v} {at} {m} H e = record { facts = H .facts; function = H .function; stands = H .facts .next (H .function) at m (H .stands) e; vars = H .vars }
+pub goes-on : {s : List ℕ} {v at m : ℕ} → OperationStands s v at → afterOf (operationAt s at) ≡ Onward m → OperationStands s v m
+goes-on {s} {v} {at} {m} H e = record { invariant = H .invariant; function = H .function; stands = H .invariant .next (H .function) at m (H .stands) e; vars = H .vars }
 
-pub never-halts : {s : List ℕ} {v at : ℕ} {r : Refusal} {A : Type 0} → Here s v at → afterOf (operationAt s at) ≡ Halted r → A
+pub never-halts : {s : List ℕ} {v at : ℕ} {r : Refusal} {A : Type 0} → OperationStands s v at → afterOf (operationAt s at) ≡ Halted r → A
 never-halts {s} {v} {at} {r} {A} H e = go (operationAt s at) (fine H) e
   where
     go : (o : Operation) → Fine s at o → afterOf o ≡ Halted r → A
@@ -75,12 +75,12 @@ module _ {s ns : List ℕ} {base v h start o₀ : ℕ} {d₀ : List ℕ} {at o :
     pub turn-next : {m : ℕ} → a ≡ Onward m → Turn s ns base v h start o₀ d₀ m r d′
     turn-next {m} q =
         record {
-          placed = record { here = goes-on (T .placed .here) (after-is ∙ q); numbered = T .placed .numbered; low = T .placed .low };
+          placed = record { here = goes-on (T .placed .here) (after-is ∙ q); numbered = T .placed .numbered; baseBound = T .placed .baseBound };
           rest = subst (λ (b : After). Rest o₀ (bytesAt s base v h start) d₀ r (following b (λ k. bytesAt s base v h k)) d′) q rest-is;
         }
 
     pub turn-moves : {m : ℕ} → a ≡ Onward m → (at < m) × (m ≤ length s)
-    turn-moves {m} q = let H = T .placed .here in H .facts .forward (H .function) at m (H .stands) (after-is ∙ q)
+    turn-moves {m} q = let H = T .placed .here in H .invariant .forward (H .function) at m (H .stands) (after-is ∙ q)
 
     pub turn-done : {m : ℕ} → a ≡ Ended m → Wrote o₀ (bytesAt s base v h start) d₀ r d′
     turn-done {m} q =
@@ -91,25 +91,25 @@ module _ {s ns : List ℕ} {base v h start o₀ : ℕ} {d₀ : List ℕ} {at o :
 
 -- Counting a block: n bytes for the operations passed.
 pub record Counting (s : List ℕ) (v h start at n : ℕ) : Type 0 where
-  pub here : Here s v at
+  pub here : OperationStands s v at
   pub is : (base : ℕ) → n + length (bytesAt s base v h at) ≡ length (bytesAt s base v h start)
-  pub few : n ≤ 128 * at
+  pub sizeBound : n ≤ 128 * at
 
-pub count-none : {s : List ℕ} {v h start : ℕ} → Here s v start → Counting s v h start start 0
-count-none {s} {v} {h} {start} H = record { here = H; is = λ base. omega arith; few = omega arith }
+pub count-none : {s : List ℕ} {v h start : ℕ} → OperationStands s v start → Counting s v h start start 0
+count-none {s} {v} {h} {start} H = record { here = H; is = λ base. omega arith; sizeBound = omega arith }
 
 module _ {s : List ℕ} {v h start at n : ℕ} (T : Counting s v h start at n) {x : Operation} (e : x ≡ operationAt s at) where
-  pub count-asks : (v ≤ 32) × Few x
-  count-asks = (few-variables (T .here), subst Few (sym e) (few-of s at (operationAt s at) (fine (T .here))))
+  pub count-asks : (v ≤ 32) × CountInTable x
+  count-asks = (variables-bound (T .here), subst CountInTable (sym e) (of-bound s at (operationAt s at) (fine (T .here))))
 
-  pub count-low : n ≤ 4194304
-  count-low =
-      let k : n ≤ 128 * at = T .few in
+  pub count-bound : n ≤ 4194304
+  count-bound =
+      let k : n ≤ 128 * at = T .sizeBound in
       let i : at < length s = within (T .here) in
-      let j : length s ≤ 32768 = T .here .facts .short in
+      let j : length s ≤ 32768 = T .here .invariant .fileBound in
       omega arith
 
-  module _ {k : ℕ} (ek : k ≡ operationSize v h x) (low : k ≤ 128) {a : After} (ea : a ≡ afterOf x) where
+  module _ {k : ℕ} (ek : k ≡ operationSize v h x) (operationBound : k ≤ 128) {a : After} (ea : a ≡ afterOf x) where
     after-was : afterOf (operationAt s at) ≡ a
     after-was = ap afterOf (sym e) ∙ sym ea
 
@@ -127,28 +127,28 @@ module _ {s : List ℕ} {v h start at n : ℕ} (T : Counting s v h start at n) {
     pub count-next : {m : ℕ} → a ≡ Onward m → Counting s v h start m (n + k)
     count-next {m} q =
         let H = T .here in
-        let f = H .facts .forward (H .function) at m (H .stands) (after-was ∙ q) in
+        let f = H .invariant .forward (H .function) at m (H .stands) (after-was ∙ q) in
         let j : at < m = f .0 in
-        let g : n ≤ 128 * at = T .few in
+        let g : n ≤ 128 * at = T .sizeBound in
         record {
           here = goes-on H (after-was ∙ q);
           is = λ base. subst (λ (b : After). n + k + length (following b (λ i. bytesAt s base v h i)) ≡ length (bytesAt s base v h start)) q (sizes-are base);
-          few = omega arith;
+          sizeBound = omega arith;
         }
 
     pub count-moves : {m : ℕ} → a ≡ Onward m → (at < m) × (m ≤ length s)
-    count-moves {m} q = let H = T .here in H .facts .forward (H .function) at m (H .stands) (after-was ∙ q)
+    count-moves {m} q = let H = T .here in H .invariant .forward (H .function) at m (H .stands) (after-was ∙ q)
 
     pub count-done : {m : ℕ} → a ≡ Ended m → BlockSize s v h start (n + k)
     count-done {m} q =
-        let g : n ≤ 128 * at = T .few in
+        let g : n ≤ 128 * at = T .sizeBound in
         let i : at < length s = within (T .here) in
-        let j : length s ≤ 32768 = T .here .facts .short in
+        let j : length s ≤ 32768 = T .here .invariant .fileBound in
         record {
           is = λ base.
               let t : n + k + 0 ≡ length (bytesAt s base v h start) = subst (λ (b : After). n + k + length (following b (λ i. bytesAt s base v h i)) ≡ length (bytesAt s base v h start)) q (sizes-are base) in
               omega arith;
-          few = omega arith;
+          sizeBound = omega arith;
         }
 
     pub count-never : {f : Refusal} {A : Type 0} → a ≡ Halted f → A

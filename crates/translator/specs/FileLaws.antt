@@ -24,11 +24,11 @@ use Rattle.procedure_file.specs.Loaded.{Loaded}
 use Rattle.target_file.specs.Writing.{targetBytes, writing}
 use Rattle.translator.specs.Translated.{translationOf}
 use Rattle.translator.specs.Parts.{partBytes, byLabel, partOf, labelBytes, functionBytes, functionsBytes, targetsBefore}
-use Rattle.translator.specs.Writes.{Room, Wrote}
-use Rattle.translator.specs.WriteLaws.{Rest, rest-none, rest-as, rest-more, rest-done, room-front, room-back, wrote-both}
-use Rattle.translator.specs.JumpLaws.{pair-as, pair-room, room-as, wrote-as}
-use Rattle.translator.specs.Ready.{Here, Placed, Numbered, BlockSize, LabelSize}
-use Rattle.translator.specs.PartLaws.{known, few-functions, blocks-are, few-blocks, count-is, here, label-as, label-size}
+use Rattle.translator_bytes.specs.Writes.{Room, Wrote}
+use Rattle.translator_bytes.specs.WriteLaws.{Rest, rest-none, rest-as, rest-more, rest-done, room-front, room-back, wrote-both}
+use Rattle.translator_bytes.specs.JumpLaws.{pair-as, pair-room, room-as, wrote-as}
+use Rattle.translator.specs.Standing.{OperationStands, Placed, Numbered, BlockSize, LabelSize}
+use Rattle.translator.specs.PartLaws.{known, functions-bound, blocks-are, blocks-bound, count-is, here, label-as, label-size}
 
 joined-append : {A : Type 0} (bytes : A → List ℕ) (xs ys : List A) → joined bytes (xs ++ ys) ≡ joined bytes xs ++ joined bytes ys
 joined-append bytes [] ys = refl
@@ -118,19 +118,19 @@ functions-none s f h = ap (λ (l : List Function). joined targetBytes (translate
 -- Counting and writing the blocks of a function.
 pub record Blocks (s : List ℕ) (f l n : ℕ) : Type 0 where
   pub is : n + length (blocksFrom s f l) ≡ length (functionBytes s f)
-  pub few : n ≤ 8388608 * l
+  pub sizeBound : n ≤ 8388608 * l
 
 pub blocks-start : (s : List ℕ) (f : ℕ) → Blocks s f 0 0
-blocks-start s f = let e : length (functionBytes s f) ≡ length (blocksFrom s f 0) = ap length (blocks-first s f) in record { is = omega arith; few = omega arith }
+blocks-start s f = let e : length (functionBytes s f) ≡ length (blocksFrom s f 0) = ap length (blocks-first s f) in record { is = omega arith; sizeBound = omega arith }
 
 pub blocks-next : {s : List ℕ} {f l n k : ℕ} → Blocks s f l n → l ≤ length (functionOf (programOf s) f .blocks) → LabelSize s f l k → Blocks s f (l + 1) (n + k)
 blocks-next {s} {f} {l} {n} {k} B h S =
     let a : length (blocksFrom s f l) ≡ length (labelBytes s f l) + length (blocksFrom s f (l + 1)) = ap length (blocks-more s f l h) ∙ length-append (labelBytes s f l) (blocksFrom s f (l + 1)) in
     let b : k ≡ length (labelBytes s f l) = S .is in
-    let c : k ≤ 8388608 = S .few in
+    let c : k ≤ 8388608 = S .sizeBound in
     let d : n + length (blocksFrom s f l) ≡ length (functionBytes s f) = B .is in
-    let e : n ≤ 8388608 * l = B .few in
-    record { is = omega arith; few = omega arith }
+    let e : n ≤ 8388608 * l = B .sizeBound in
+    record { is = omega arith; sizeBound = omega arith }
 
 pub blocks-end : {s : List ℕ} {f l n : ℕ} → Blocks s f l n → length (functionOf (programOf s) f .blocks) < l → n ≡ length (functionBytes s f)
 blocks-end {s} {f} {l} {n} B h =
@@ -145,20 +145,20 @@ translation-size s = omega arith
 
 pub record Functions (s : List ℕ) (f n : ℕ) : Type 0 where
   pub is : n + length (functionsFrom s f) ≡ length (translationOf s)
-  pub few : n ≤ 7 + 536870912 * f
+  pub sizeBound : n ≤ 7 + 536870912 * f
 
 pub functions-start : (s : List ℕ) → Functions s 0 7
 functions-start s =
     let a : length (translationOf s) ≡ 7 + length (functionsBytes s) = translation-size s in
     let e : length (functionsBytes s) ≡ length (functionsFrom s 0) = ap length (functions-first s) in
-    record { is = omega arith; few = omega arith }
+    record { is = omega arith; sizeBound = omega arith }
 
 pub functions-next : {s : List ℕ} {f n k : ℕ} → Functions s f n → f < length (programOf s) → k ≡ length (functionBytes s f) → k ≤ 536870912 → Functions s (f + 1) (n + k)
 functions-next {s} {f} {n} {k} B h ek lk =
     let a : length (functionsFrom s f) ≡ length (functionBytes s f) + length (functionsFrom s (f + 1)) = ap length (functions-more s f h) ∙ length-append (functionBytes s f) (functionsFrom s (f + 1)) in
     let d : n + length (functionsFrom s f) ≡ length (translationOf s) = B .is in
-    let e : n ≤ 7 + 536870912 * f = B .few in
-    record { is = omega arith; few = omega arith }
+    let e : n ≤ 7 + 536870912 * f = B .sizeBound in
+    record { is = omega arith; sizeBound = omega arith }
 
 pub functions-end : {s : List ℕ} {f n : ℕ} → Functions s f n → length (programOf s) ≤ f → n ≡ length (translationOf s)
 functions-end {s} {f} {n} B h =
@@ -169,23 +169,23 @@ functions-end {s} {f} {n} B h =
 -- The table of numbers.
 pub record Numbering (bs : List ℕ) (f n : ℕ) (ns : List ℕ) : Type 0 where
   pub is : n ≡ targetsBefore bs f
-  pub few : n ≤ 256 * f
+  pub numberBound : n ≤ 256 * f
   pub done : (g : ℕ) → g < f → getD ns g 0 ≡ targetsBefore bs g
-  pub wide : length ns ≡ 32
+  pub tableLength : length ns ≡ 32
 
 pub numbering-none : (bs ns : List ℕ) → length ns ≡ 32 → Numbering bs 0 0 ns
-numbering-none bs ns w = record { is = refl; few = omega arith; done = λ g h. absurd (omega arith); wide = w }
+numbering-none bs ns w = record { is = refl; numberBound = omega arith; done = λ g h. absurd (omega arith); tableLength = w }
 
 pub numbering-more : {bs : List ℕ} {f n k : ℕ} {ns : List ℕ} → Numbering bs f n ns → f < 32 → k ≡ getD bs f 0 → k < 256 → Numbering bs (f + 1) (n + (1 + k)) (set ns f n)
 numbering-more {bs} {f} {n} {k} {ns} N h ek b =
     let i : n ≡ targetsBefore bs f = N .is in
-    let l : n ≤ 256 * f = N .few in
-    let w : length ns ≡ 32 = N .wide in
+    let l : n ≤ 256 * f = N .numberBound in
+    let w : length ns ≡ 32 = N .tableLength in
     record {
       is = ap (λ (m : ℕ). m + (1 + k)) i ∙ (ap (λ (m : ℕ). targetsBefore bs f + (1 + m)) ek ∙ ap (targetsBefore bs) (sym (add-one f)));
-      few = omega arith;
+      numberBound = omega arith;
       done = λ g j. by j w i;
-      wide = length-set ns f n ∙ w;
+      tableLength = length-set ns f n ∙ w;
     }
   where
     by : {g : ℕ} → g < f + 1 → length ns ≡ 32 → n ≡ targetsBefore bs f → getD (set ns f n) g 0 ≡ targetsBefore bs g
@@ -212,10 +212,10 @@ before-is P bs B (suc g) h =
     let c : number P (suc g) ≡ number P g + targets (functionOf P g) = number-next P g h in
     omega arith
 
-pub number-low : (P : Program) → ((f : ℕ) → f < length P → length (functionOf P f .blocks) ≤ 63) → (g : ℕ) → g ≤ length P → number P g ≤ 64 * g
-number-low P B zero h = omega arith
-number-low P B (suc g) h =
-    let a : number P g ≤ 64 * g = number-low P B g (omega arith) in
+pub number-bound : (P : Program) → ((f : ℕ) → f < length P → length (functionOf P f .blocks) ≤ 63) → (g : ℕ) → g ≤ length P → number P g ≤ 64 * g
+number-bound P B zero h = omega arith
+number-bound P B (suc g) h =
+    let a : number P g ≤ 64 * g = number-bound P B g (omega arith) in
     let b : length (functionOf P g .blocks) ≤ 63 = B g h in
     let c : number P (suc g) ≡ number P g + targets (functionOf P g) = number-next P g h in
     omega arith
@@ -229,17 +229,17 @@ module _ {s starts handlers params locals blocks : List ℕ} (L : Loaded s start
   targets-are {n} {count} e q =
       q ∙ (ap (targetsBefore blocks) e ∙ (before-is (programOf s) blocks (λ f k. blocks-are L f k) (length (programOf s)) (omega arith) ∙ sym (length-from (number (programOf s)) 0 (programOf s))))
 
-  pub base-low : (f : ℕ) → f < length (programOf s) → number (programOf s) f ≤ 2048
-  base-low f h =
-      let a : number (programOf s) f ≤ 64 * f = number-low (programOf s) (λ g k. few-blocks L g k) f (omega arith) in
-      let b : length (programOf s) ≤ 32 = few-functions L in
+  pub base-bound : (f : ℕ) → f < length (programOf s) → number (programOf s) f ≤ 2048
+  base-bound f h =
+      let a : number (programOf s) f ≤ 64 * f = number-bound (programOf s) (λ g k. blocks-bound L g k) f (omega arith) in
+      let b : length (programOf s) ≤ 32 = functions-bound L in
       omega arith
 
-  pub targets-low : length (translate (programOf s)) ≤ 2048
+  pub targets-bound : length (translate (programOf s)) ≤ 2048
   unfolding translate
-  targets-low =
-      let a : number (programOf s) (length (programOf s)) ≤ 64 * length (programOf s) = number-low (programOf s) (λ g k. few-blocks L g k) (length (programOf s)) (omega arith) in
-      let b : length (programOf s) ≤ 32 = few-functions L in
+  targets-bound =
+      let a : number (programOf s) (length (programOf s)) ≤ 64 * length (programOf s) = number-bound (programOf s) (λ g k. blocks-bound L g k) (length (programOf s)) (omega arith) in
+      let b : length (programOf s) ≤ 32 = functions-bound L in
       let c : length (translateFrom (number (programOf s)) 0 (programOf s)) ≡ number (programOf s) (length (programOf s)) = length-from (number (programOf s)) 0 (programOf s) in
       omega arith
 
@@ -251,13 +251,13 @@ module _ {s starts handlers params locals blocks : List ℕ} (L : Loaded s start
   pub label-outside : {l labels : ℕ} → labels ≡ getD blocks f 0 → labels < l → length (functionOf (programOf s) f .blocks) < l
   label-outside {l} {labels} e h = let a : getD blocks f 0 ≡ length (functionOf (programOf s) f .blocks) = blocks-are L f there in omega arith
 
-  pub labels-low : {labels : ℕ} → labels ≡ getD blocks f 0 → labels ≤ 63
-  labels-low {labels} e = let a : getD blocks f 0 ≡ length (functionOf (programOf s) f .blocks) = blocks-are L f there in let b : length (functionOf (programOf s) f .blocks) ≤ 63 = few-blocks L f there in omega arith
+  pub labels-bound : {labels : ℕ} → labels ≡ getD blocks f 0 → labels ≤ 63
+  labels-bound {labels} e = let a : getD blocks f 0 ≡ length (functionOf (programOf s) f .blocks) = blocks-are L f there in let b : length (functionOf (programOf s) f .blocks) ≤ 63 = blocks-bound L f there in omega arith
 
   module _ (l : ℕ) (block : l ≤ length (functionOf (programOf s) f .blocks)) {own others v at : ℕ} (ep : own ≡ getD params f 0) (el : others ≡ getD locals f 0)
       (ev : v ≡ own + others) (ea : at ≡ getD starts (64 * f + l) 0) where
-    pub label-here : Here s v at
-    label-here = subst (Here s v) (sym ea) (here L f there l block ep el ev)
+    pub label-here : OperationStands s v at
+    label-here = subst (OperationStands s v) (sym ea) (here L f there l block ep el ev)
 
     pub label-sized : {n k : ℕ} → n ≡ byLabel l others 0 → BlockSize s v (getD handlers (64 * f + l) 0) at k → LabelSize s f l (3 + (6 * n + k))
     label-sized {n} {k} en B = label-size L f there l block ep el ev refl en (subst (λ (i : ℕ). BlockSize s v (getD handlers (64 * f + l) 0) i k) ea B)
@@ -266,8 +266,8 @@ module _ {s starts handlers params locals blocks : List ℕ} (L : Loaded s start
       pub label-placed : Placed s ns base v at
       label-placed =
           let a : getD ns f 0 ≡ number (programOf s) f = N f there in
-          let b : number (programOf s) f ≤ 2048 = base-low L f there in
-          record { here = label-here; numbered = N; low = omega arith }
+          let b : number (programOf s) f ≤ 2048 = base-bound L f there in
+          record { here = label-here; numbered = N; baseBound = omega arith }
 
       pub label-part : {p n : ℕ} → p ≡ byLabel l own v → n ≡ byLabel l others 0 → labelBytes s f l ≡ partBytes s base p n v (getD handlers (64 * f + l) 0) at
       label-part {p} {n} eq en =

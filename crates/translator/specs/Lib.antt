@@ -1,11 +1,8 @@
--- The translator. Definitions: Translated. What the functions write and are asked: Bytes, Parts, Writes, Ready. Laws: the others.
+-- The translator. Definitions, in reading order: Translated (what is published), Parts (the bytes of each part), Standing (what private functions are asked).
 pub mod Translated
-pub mod Bytes
 pub mod Parts
-pub mod Writes
-pub mod Ready
-pub mod WriteLaws
-pub mod JumpLaws
+pub mod Standing
+-- Laws.
 pub mod SizeLaws
 pub mod OperationLaws
 pub mod BlockLaws

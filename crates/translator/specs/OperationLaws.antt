@@ -13,22 +13,22 @@ use Rattle.semantics.specs.WellFormed.{All, WellFormedBlock}
 use Rattle.semantics.specs.ListLaws.{all-at}
 use Rattle.semantics.specs.Code.{jump, ifAtMost}
 use Rattle.semantics.specs.Translation.{slotOf, slotsFrom, toLabel, code, number}
-use Rattle.procedure_layout.specs.declared.operation.Operation.{Operation}
-use Rattle.procedure_layout.specs.declared.operation.Operation.the-variants.{Constant, Copy, Difference, Call, Goto, Return, Branch, Raise, Refused}
+use Rattle.procedure_operations.specs.declared.operation.Operation.{Operation}
+use Rattle.procedure_operations.specs.declared.operation.Operation.the-variants.{Constant, Copy, Difference, Call, Goto, Return, Branch, Raise, Refused}
 use Rattle.procedure_layout.specs.declared.layout.After.{After}
 use Rattle.procedure_layout.specs.declared.layout.After.the-variants.{Onward, Ended, Halted}
-use Rattle.procedure_layout.specs.Operation.{operationAt}
+use Rattle.procedure_operations.specs.Operation.{operationAt}
 use Rattle.procedure_layout.specs.Layout.{argumentsAt}
 use Rattle.procedure_layout.specs.Rest.{restFrom, restAt}
 use Rattle.procedure_layout.specs.After.{afterOf}
-use Rattle.procedure_layout.specs.ViewLaws.{View, isConstant, isCopy, isDifference, isCall, isGoto, isReturn, isBranch, isRaise, isRefused, view}
+use Rattle.procedure_operations.specs.ViewLaws.{View, isConstant, isCopy, isDifference, isCall, isGoto, isReturn, isBranch, isRaise, isRefused, view}
 use Rattle.procedure_file.specs.Check.{programOf}
-use Rattle.procedure_file.specs.Facts.{Facts, Stands, Counts}
+use Rattle.procedure_file.specs.FileInvariant.{FileInvariant, Stands, Counts}
 use Rattle.target_file.specs.Writing.{size, exprBytes}
-use Rattle.translator.specs.Bytes.{tabled, jumpHead, labelJump, callJump, plainCall, guardedCall, branchBytes, raiseBytes, callBytes, operationBytes, operationSize}
+use Rattle.translator_bytes.specs.Bytes.{tabled, jumpHead, labelJump, callJump, plainCall, guardedCall, branchBytes, raiseBytes, callBytes, operationBytes, operationSize}
 use Rattle.translator.specs.Parts.{bodyAt, bytesAt}
-use Rattle.translator.specs.Ready.{Here, Numbered, Few}
-use Rattle.translator.specs.JumpLaws.{Arguments}
+use Rattle.translator.specs.Standing.{OperationStands, Numbered, CountInTable}
+use Rattle.translator_bytes.specs.Writes.{Arguments}
 use Rattle.translator.specs.SizeLaws.{guarded-test, length-slots, label-size, call-size, called-size, branch-size, raise-size}
 use lib.ListN.{length-map}
 
@@ -44,20 +44,20 @@ Fine s at (Branch y z l m next) = (y < 32) × (z < 32)
 Fine s at (Raise next) = Unit {0}
 Fine s at (Refused r) = ⊥
 
-module _ {s : List ℕ} {v at : ℕ} (H : Here s v at) where
-  pub few-variables : v ≤ 32
-  few-variables =
-      let k = H .facts .counts (H .function) (H .stands .there) in
+module _ {s : List ℕ} {v at : ℕ} (H : OperationStands s v at) where
+  pub variables-bound : v ≤ 32
+  variables-bound =
+      let k = H .invariant .counts (H .function) (H .stands .there) in
       let e : v ≡ variables (functionOf (programOf s) (H .function)) = H .vars in
       let p : functionOf (programOf s) (H .function) .params ≤ 8 = k .params in
       let l : functionOf (programOf s) (H .function) .locals ≤ 24 = k .locals in
       omega arith
 
   pub within : at < length s
-  within = H .facts .inside (H .function) at (H .stands)
+  within = H .invariant .inside (H .function) at (H .stands)
 
   pub fine : Fine s at (operationAt s at)
-  fine = go (view s at) refl (subst (λ (b : Block). WellFormedBlock P w n b) (H .facts .rest at) (H .stands .formed))
+  fine = go (view s at) refl (subst (λ (b : Block). WellFormedBlock P w n b) (H .invariant .rest at) (H .stands .formed))
     where
       P : Program
       P = programOf s
@@ -69,7 +69,7 @@ module _ {s : List ℕ} {v at : ℕ} (H : Here s v at) where
       n = length (functionOf P (H .function) .blocks)
 
       in32 : (x : ℕ) → x < w → x < 32
-      in32 x h = let a : v ≤ 32 = few-variables in let e : v ≡ w = H .vars in omega arith
+      in32 x h = let a : v ≤ 32 = variables-bound in let e : v ≡ w = H .vars in omega arith
 
       go : {o : Operation} → View s at o → operationAt s at ≡ o → WellFormedBlock P w n (restFrom s at o (restAt s)) → Fine s at o
       go (isConstant e h) q f = (in32 _ (f .0), h, refl)
@@ -78,26 +78,26 @@ module _ {s : List ℕ} {v at : ℕ} (H : Here s v at) where
       go (isCall e h) q f =
           let k = getD s (at + 3) 0 in
           let g = getD s (at + 2) 0 in
-          let c : length (argumentsAt s at k) ≡ k = H .facts .called at _ g k _ q in
-          let p : functionOf P g .params ≤ 8 = H .facts .counts g (f .1) .params in
+          let c : length (argumentsAt s at k) ≡ k = H .invariant .called at _ g k _ q in
+          let p : functionOf P g .params ≤ 8 = H .invariant .counts g (f .1) .params in
           let m : length (argumentsAt s at k) ≡ functionOf P g .params = f .2 in
-          (in32 _ (f .0), f .1, omega arith, record { inside = h; small = λ i l. in32 _ (all-at (λ y. y < w) (argumentsAt s at k) i _ (f .3) (H .facts .argument at _ g k _ i q l)) }, c)
+          (in32 _ (f .0), f .1, omega arith, record { inside = h; small = λ i l. in32 _ (all-at (λ y. y < w) (argumentsAt s at k) i _ (f .3) (H .invariant .argument at _ g k _ i q l)) }, c)
       go (isGoto e h) q f = tt
       go (isReturn e h) q f = in32 _ f
       go (isBranch e h) q f = (in32 _ (f .0), in32 _ (f .1))
       go (isRaise e h) q f = tt
-      go (isRefused r) q f = H .facts .operation (H .function) at r (H .stands) q
+      go (isRefused r) q f = H .invariant .operation (H .function) at r (H .stands) q
 
-pub few-of : (s : List ℕ) (at : ℕ) (o : Operation) → Fine s at o → Few o
-few-of s at (Constant x i next) f = tt
-few-of s at (Copy x y next) f = tt
-few-of s at (Difference x y z next) f = tt
-few-of s at (Call x g n next) f = f .2
-few-of s at (Goto l next) f = tt
-few-of s at (Return x next) f = tt
-few-of s at (Branch y z l m next) f = tt
-few-of s at (Raise next) f = tt
-few-of s at (Refused r) f = tt
+pub of-bound : (s : List ℕ) (at : ℕ) (o : Operation) → Fine s at o → CountInTable o
+of-bound s at (Constant x i next) f = tt
+of-bound s at (Copy x y next) f = tt
+of-bound s at (Difference x y z next) f = tt
+of-bound s at (Call x g n next) f = f .2
+of-bound s at (Goto l next) f = tt
+of-bound s at (Return x next) f = tt
+of-bound s at (Branch y z l m next) f = tt
+of-bound s at (Raise next) f = tt
+of-bound s at (Refused r) f = tt
 
 -- The size of what an operation becomes.
 pub operation-size : (ns : ℕ → ℕ) (base v h : ℕ) (s : List ℕ) (at : ℕ) (o : Operation) → Fine s at o
@@ -189,9 +189,9 @@ module _ (ns : ℕ → ℕ) (base v : ℕ) where
   split (suc l) s at (Raise next) f = rw (guarded-test l) (label-is base v (suc l) ∙ sym (append-nil (labelJump base v (suc l))))
   split h s at (Refused r) f = absurd f
 
-pub split-at : {s : List ℕ} {v at : ℕ} (base h : ℕ) → Here s v at
+pub split-at : {s : List ℕ} {v at : ℕ} (base h : ℕ) → OperationStands s v at
     → bytesAt s base v h at ≡ operationBytes (number (programOf s)) base v h s at (operationAt s at) ++ following (afterOf (operationAt s at)) (λ m. bytesAt s base v h m)
 unfolding bytesAt bodyAt
 split-at {s} {v} {at} base h H =
-    ap (λ (b : Block). exprBytes (code (number (programOf s)) base v h b)) (H .facts .rest at)
+    ap (λ (b : Block). exprBytes (code (number (programOf s)) base v h b)) (H .invariant .rest at)
     ∙ split (number (programOf s)) base v h s at (operationAt s at) (fine H)

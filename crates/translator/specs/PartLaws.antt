@@ -17,18 +17,18 @@ use Rattle.procedure_layout.specs.Rest.{restAt}
 use Rattle.procedure_names.specs.Writing as procedure
 use Rattle.procedure_file.specs.Check.{checkOf, programOf}
 use Rattle.procedure_file.specs.Places.{startOf, blockOf, handlerOf, noLabelled}
-use Rattle.procedure_file.specs.Facts.{Facts, Stands, Counts}
-use Rattle.procedure_file.specs.FactsLaws.{facts}
+use Rattle.procedure_file.specs.FileInvariant.{FileInvariant, Stands, Counts}
+use Rattle.procedure_file.specs.FileInvariantLaws.{invariant}
 use Rattle.procedure_file.specs.Tables.{Tables, BlockEntry, CountEntry}
 use Rattle.procedure_file.specs.Loaded.{Loaded}
 use Rattle.target_file.specs.Writing.{size, exprBytes, targetBytes, writing}
 use Rattle.translator.specs.Translated.{translationOf}
-use Rattle.translator.specs.Bytes.{zeros}
+use Rattle.translator_bytes.specs.Bytes.{zeros}
 use Rattle.translator.specs.Parts.{bodyAt, bytesAt, partBytes, byLabel, partOf, labelBytes, functionBytes, functionsBytes, targetsBefore}
-use Rattle.translator.specs.Writes.{Room, Wrote}
-use Rattle.translator.specs.WriteLaws.{Rest, rest-none, rest-as, rest-more, rest-done, room-front, room-back, wrote-both}
-use Rattle.translator.specs.JumpLaws.{pair-as, pair-room, room-as, wrote-as}
-use Rattle.translator.specs.Ready.{Here, Numbered, Placed, BlockSize, LabelSize}
+use Rattle.translator_bytes.specs.Writes.{Room, Wrote}
+use Rattle.translator_bytes.specs.WriteLaws.{Rest, rest-none, rest-as, rest-more, rest-done, room-front, room-back, wrote-both}
+use Rattle.translator_bytes.specs.JumpLaws.{pair-as, pair-room, room-as, wrote-as}
+use Rattle.translator.specs.Standing.{OperationStands, Numbered, Placed, BlockSize, LabelSize}
 use Rattle.translator.specs.SizeLaws.{size-is, length-zeros}
 
 -- A body that begins with locals bound to 0.
@@ -119,11 +119,11 @@ body-is s base at {v} {v′} {h} {h′} {b} ev eh eb =
 
 -- A file whose tables are filled.
 module _ {s starts handlers params locals blocks : List ℕ} (L : Loaded s starts handlers params locals blocks) where
-  pub known : Facts s
-  known = facts s (L .bytes) (L .isAccepted)
+  pub known : FileInvariant s
+  known = invariant s (L .bytes) (L .isAccepted)
 
-  pub few-functions : length (programOf s) ≤ 32
-  few-functions = known .most
+  pub functions-bound : length (programOf s) ≤ 32
+  functions-bound = known .most
 
   -- The function count is a byte of the file.
   pub count-is : getD s 5 0 ≡ length (programOf s)
@@ -138,13 +138,13 @@ module _ {s starts handlers params locals blocks : List ℕ} (L : Loaded s start
     pub blocks-are : getD blocks f 0 ≡ length (functionOf (programOf s) f .blocks)
     blocks-are = L .tables .countEntries f there .blocksAre
 
-    pub few-blocks : length (functionOf (programOf s) f .blocks) ≤ 63
-    few-blocks = known .counts f there .blocks
+    pub blocks-bound : length (functionOf (programOf s) f .blocks) ≤ 63
+    blocks-bound = known .counts f there .blocks
 
     module _ (l : ℕ) (block : l ≤ length (functionOf (programOf s) f .blocks)) where
       -- What the tables say of one block.
-      pub slot-low : 64 * f + l < 2048
-      slot-low = let a : length (programOf s) ≤ 32 = few-functions in let b : length (functionOf (programOf s) f .blocks) ≤ 63 = few-blocks in omega arith
+      pub index-bound : 64 * f + l < 2048
+      index-bound = let a : length (programOf s) ≤ 32 = functions-bound in let b : length (functionOf (programOf s) f .blocks) ≤ 63 = blocks-bound in omega arith
 
       module _ {own others v : ℕ} (ep : own ≡ getD params f 0) (el : others ≡ getD locals f 0) (ev : v ≡ own + others) where
         pub variables-are : v ≡ variables (functionOf (programOf s) f)
@@ -153,16 +153,16 @@ module _ {s starts handlers params locals blocks : List ℕ} (L : Loaded s start
             let b : getD locals f 0 ≡ functionOf (programOf s) f .locals = L .tables .countEntries f there .localsAre in
             omega arith
 
-        pub own-low : own ≤ 8
-        own-low = let a : getD params f 0 ≡ functionOf (programOf s) f .params = L .tables .countEntries f there .paramsAre in let b : functionOf (programOf s) f .params ≤ 8 = known .counts f there .params in omega arith
+        pub own-bound : own ≤ 8
+        own-bound = let a : getD params f 0 ≡ functionOf (programOf s) f .params = L .tables .countEntries f there .paramsAre in let b : functionOf (programOf s) f .params ≤ 8 = known .counts f there .params in omega arith
 
-        pub others-low : others ≤ 24
-        others-low = let a : getD locals f 0 ≡ functionOf (programOf s) f .locals = L .tables .countEntries f there .localsAre in let b : functionOf (programOf s) f .locals ≤ 24 = known .counts f there .locals in omega arith
+        pub others-bound : others ≤ 24
+        others-bound = let a : getD locals f 0 ≡ functionOf (programOf s) f .locals = L .tables .countEntries f there .localsAre in let b : functionOf (programOf s) f .locals ≤ 24 = known .counts f there .locals in omega arith
 
-        pub here : Here s v (getD starts (64 * f + l) 0)
+        pub here : OperationStands s v (getD starts (64 * f + l) 0)
         here =
             record {
-              facts = known;
+              invariant = known;
               function = f;
               stands = subst (Stands s f) (sym (L .tables .blockEntries f l there block .start)) (known .start f l there block);
               vars = variables-are;
@@ -194,15 +194,15 @@ module _ {s starts handlers params locals blocks : List ℕ} (L : Loaded s start
               → labelBytes s f l ≡ partBytes s base p n v (getD handlers (64 * f + l) 0) (getD starts (64 * f + l) 0)
           label-as {base} e = label-is ∙ ap (λ (b : ℕ). partBytes s b p n v (getD handlers (64 * f + l) 0) (getD starts (64 * f + l) 0)) (sym e)
 
-          pub counts-low : (p ≤ 32) × (n ≤ 24)
-          counts-low = (omega (arith, eq, low-own l), omega (arith, en, low-others l))
+          pub counts-bound : (p ≤ 32) × (n ≤ 24)
+          counts-bound = (omega (arith, eq, own-at-most l), omega (arith, en, low-others l))
             where
-              low-own : (i : ℕ) → byLabel i own v ≤ 32
-              low-own zero = let a : own ≤ 8 = own-low in omega arith
-              low-own (suc i) = let a : own ≤ 8 = own-low in let b : others ≤ 24 = others-low in omega arith
+              own-at-most : (i : ℕ) → byLabel i own v ≤ 32
+              own-at-most zero = let a : own ≤ 8 = own-bound in omega arith
+              own-at-most (suc i) = let a : own ≤ 8 = own-bound in let b : others ≤ 24 = others-bound in omega arith
 
               low-others : (i : ℕ) → byLabel i others 0 ≤ 24
-              low-others zero = others-low
+              low-others zero = others-bound
               low-others (suc i) = omega arith
 
           -- Its size.
@@ -211,9 +211,9 @@ module _ {s starts handlers params locals blocks : List ℕ} (L : Loaded s start
               let a : length (labelBytes s f l) ≡ 3 + (6 * n + length (bytesAt s (number (programOf s) f) v (getD handlers (64 * f + l) 0) (getD starts (64 * f + l) 0))) =
               ap length label-is ∙ part-size s (number (programOf s) f) p n v (getD handlers (64 * f + l) 0) (getD starts (64 * f + l) 0) in
               let b : k ≡ length (bytesAt s (number (programOf s) f) v (getD handlers (64 * f + l) 0) (getD starts (64 * f + l) 0)) = B .is (number (programOf s) f) in
-              let c : k ≤ 4194304 = B .few in
-              let t : n ≤ 24 = counts-low .1 in
-              record { is = omega arith; few = omega arith }
+              let c : k ≤ 4194304 = B .sizeBound in
+              let t : n ≤ 24 = counts-bound .1 in
+              record { is = omega arith; sizeBound = omega arith }
 
 pub by-label-other : (l a b : ℕ) → (l ≡ 0 → ⊥) → b ≡ byLabel l a b
 by-label-other zero a b h = absurd (h refl)

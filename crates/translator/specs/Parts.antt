@@ -11,7 +11,7 @@ use Rattle.procedure_layout.specs.Rest.{restAt}
 use Rattle.procedure_file.specs.Check.{programOf}
 use Rattle.procedure_file.specs.Places.{blockOf, handlerOf}
 use Rattle.target_file.specs.Writing.{exprBytes, targetBytes}
-use Rattle.translator.specs.Bytes.{zeros}
+use Rattle.translator_bytes.specs.Bytes.{zeros}
 
 -- The translation of the rest of a block from an offset on.
 unfoldable pub bodyAt : List ℕ → ℕ → ℕ → ℕ → ℕ → Expr

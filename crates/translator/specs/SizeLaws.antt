@@ -8,10 +8,10 @@ use borrow.Author.Tests.{eq-eqb, ne-eqb}
 use lib.Dec.{eqb}
 use lib.ListN.{length, take, drop, length-append, length-map}
 use Rattle.parsing.specs.Bytes.{pairBytes, valueBytes}
-use Rattle.semantics.specs.Code.{Expr, letConstant, letSlot, letDifference, jump, resume, handle, ifAtMost, letContinuation, letBoth}
+use Rattle.semantics.specs.Code.{Expr, letConstant, letSlot, letDifference, jump, resume, handle, ifAtMost, letContinuation, letContinuationWithHandler}
 use Rattle.semantics.specs.Translation.{slotOf, slotsFrom}
 use Rattle.target_file.specs.Writing.{size, exprBytes}
-use Rattle.translator.specs.Bytes.{jumpHead, labelJump, callJump, plainCall, guardedCall, branchBytes, raiseBytes, callBytes, callSize, raiseSize, zeros}
+use Rattle.translator_bytes.specs.Bytes.{jumpHead, labelJump, callJump, plainCall, guardedCall, branchBytes, raiseBytes, callBytes, callSize, raiseSize, zeros}
 
 -- A handler in force is not 0.
 pub guarded-test : (h : ℕ) → eqb (suc h) 0 ≡ false
@@ -34,7 +34,7 @@ size-is (letContinuation x p e k) =
     let b = size-is k in
     let c = length-append (exprBytes e) (exprBytes k) in
     omega arith
-size-is (letBoth x p t e h k) =
+size-is (letContinuationWithHandler x p t e h k) =
     let a = size-is e in
     let b = size-is h in
     let c = size-is k in

@@ -1,19 +1,19 @@
 // A block's operations, translated one behind the other.
-use crate::bytes;
-use crate::jumps;
+use casts::offset_number;
 use procedure_layout::layout::After;
 use procedure_layout::layout::after_of;
-use procedure_layout::operation::Operation;
-use procedure_layout::operation::operation_at;
+use procedure_operations::operation::Operation;
+use procedure_operations::operation::operation_at;
+use translator_bytes::jumps;
 ghost use mathlib.Core.Path.{_≡_};
 ghost use Prim.Native.Nat.{_+_, _<_, _≤_};
-ghost use Rattle.procedure_layout.specs.Operation.{operationAt};
-ghost use Rattle.translator.specs.Writes.{Room, Wrote};
-ghost use Rattle.translator.specs.Bytes.{tabled, callBytes, operationBytes};
-ghost use Rattle.translator.specs.JumpLaws.{Arguments};
+ghost use Rattle.procedure_operations.specs.Operation.{operationAt};
+ghost use Rattle.translator_bytes.specs.Writes.{Room, Wrote};
+ghost use Rattle.translator_bytes.specs.Bytes.{tabled, callBytes, operationBytes};
+ghost use Rattle.translator_bytes.specs.Writes.{Arguments};
 ghost use Rattle.procedure_layout.specs.Layout.{argumentsAt};
 ghost use Rattle.translator.specs.Parts.{bytesAt};
-ghost use Rattle.translator.specs.Ready.{Placed};
+ghost use Rattle.translator.specs.Standing.{Placed};
 
 // 4 call: the callee's number in the translation is taken from the table.
 fn put_called(
@@ -35,7 +35,7 @@ fn put_called(
 {
     let i = f as usize;
     let from = at + 4;
-    let g = bytes::offset_number(numbers[i]);
+    let g = offset_number(numbers[i]);
     jumps::put_call(file, from, out, o, base, v, h, x, g, n)
 }
 

@@ -1,7 +1,5 @@
 // The translator: a procedure file becomes a translated file.
 mod blocks;
-mod bytes;
-mod jumps;
 mod parts;
 mod sizes;
 

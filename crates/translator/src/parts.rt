@@ -1,16 +1,18 @@
 // The functions of the translated file, written one behind the other.
 use crate::blocks::put_block;
-use crate::bytes;
 use crate::sizes;
+use casts::byte_number;
+use casts::offset_number;
+use translator_bytes::bytes;
 ghost use mathlib.Core.Path.{_≡_};
 ghost use Prim.Native.Nat.{ℕ, _+_, _*_, _<_, _≤_};
 ghost use lib.ListN.{length, getD};
 ghost use Rattle.procedure_file.specs.Loaded.{Loaded};
 ghost use Rattle.procedure_file.specs.Check.{programOf};
 ghost use Rattle.semantics.specs.Program.{functionOf};
-ghost use Rattle.translator.specs.Writes.{Room, Wrote};
+ghost use Rattle.translator_bytes.specs.Writes.{Room, Wrote};
 ghost use Rattle.translator.specs.Parts.{partBytes, labelBytes, functionBytes, functionsBytes, targetsBefore};
-ghost use Rattle.translator.specs.Ready.{Placed, Numbered};
+ghost use Rattle.translator.specs.Standing.{Placed, Numbered};
 ghost use Rattle.translator.specs.Translated.{translationOf};
 
 // A function of the translated file: it binds n locals and goes on as the block at an offset.
@@ -58,15 +60,15 @@ fn put_label(
     requires { ⌜ Room o (labelBytes (now file) f l) (now out) ⌝ }
     ensures { λ r. ⌜ Wrote o (labelBytes (now (file .entry)) f l) (now (out .entry)) r (now (out .exit)) ⌝ }
 {
-    let slot = 64 * f + l;
-    let base = bytes::offset_number(numbers[f]);
+    let index = 64 * f + l;
+    let base = offset_number(numbers[f]);
     let own = params[f];
     let others = locals[f];
     let v = own + others;
     let p = sizes::by_label(l, own, v);
     let n = sizes::by_label(l, others, 0);
-    let at = bytes::offset_number(starts[slot]);
-    let h = handlers[slot];
+    let at = offset_number(starts[index]);
+    let h = handlers[index];
     put_part(file, numbers, base, p, n, v, h, at, out, o)
 }
 
@@ -88,7 +90,7 @@ fn put_function(
     requires { ⌜ Room o (functionBytes (now file) f) (now out) ⌝ }
     ensures { λ r. ⌜ Wrote o (functionBytes (now (file .entry)) f) (now (out .entry)) r (now (out .exit)) ⌝ }
 {
-    let labels = bytes::byte_number(blocks[f]);
+    let labels = byte_number(blocks[f]);
     let mut place = o;
     let mut l = 0;
     while l <= labels {
@@ -156,7 +158,7 @@ fn fill_numbers(blocks: &[u8; 32], count: usize, numbers: &mut [u16]) -> usize
     let mut f = 0;
     while f < count {
         numbers[f] = n as u16;
-        let labels = bytes::byte_number(blocks[f]);
+        let labels = byte_number(blocks[f]);
         n += 1 + labels;
         f += 1;
     }
@@ -178,7 +180,7 @@ pub fn put_file(
     ensures { λ r. ⌜ Wrote 0 (translationOf (now (file .entry))) (now (out .entry)) r (now (out .exit)) ⌝ }
 {
     let mut numbers = [0u16; 32];
-    let count = bytes::byte_number(file[5]);
+    let count = byte_number(file[5]);
     let targets = fill_numbers(blocks, count, &mut numbers);
     let mark = b"SPC";
     let a = bytes::put_three(out, 0, mark[0], mark[1], mark[2]);

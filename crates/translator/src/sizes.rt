@@ -1,19 +1,20 @@
 // The size of the translation, which decides 17 and 16 and gives the length of each body.
-use crate::bytes;
-use crate::jumps;
+use casts::byte_number;
+use casts::offset_number;
 use procedure_layout::layout::After;
 use procedure_layout::layout::after_of;
-use procedure_layout::operation::Operation;
-use procedure_layout::operation::operation_at;
+use procedure_operations::operation::Operation;
+use procedure_operations::operation::operation_at;
+use translator_bytes::jumps;
 ghost use mathlib.Core.Path.{_≡_};
 ghost use Prim.Native.Nat.{_+_, _*_, _<_, _≤_};
 ghost use lib.ListN.{length, getD};
 ghost use Rattle.procedure_file.specs.Loaded.{Loaded};
 ghost use Rattle.procedure_file.specs.Check.{programOf};
 ghost use Rattle.semantics.specs.Program.{functionOf};
-ghost use Rattle.translator.specs.Bytes.{callSize, raiseSize, operationSize};
+ghost use Rattle.translator_bytes.specs.Bytes.{callSize, raiseSize, operationSize};
 ghost use Rattle.translator.specs.Parts.{byLabel, functionBytes};
-ghost use Rattle.translator.specs.Ready.{Here, Few, BlockSize, LabelSize};
+ghost use Rattle.translator.specs.Standing.{OperationStands, CountInTable, BlockSize, LabelSize};
 ghost use Rattle.translator.specs.Translated.{translationOf};
 
 fn call_size(v: u8, h: u8, n: u8) -> usize
@@ -54,7 +55,7 @@ fn goto_size(v: u8) -> usize
 
 // How many bytes an operation becomes, without the rest of its block.
 fn operation_size(v: u8, h: u8, x: Operation) -> usize
-    requires { ⌜ (v ≤ 32) × Few x ⌝ }
+    requires { ⌜ (v ≤ 32) × CountInTable x ⌝ }
     ensures { λ r. ⌜ (r ≡ operationSize v h x) × (r ≤ 128) ⌝ }
 {
     match x {
@@ -99,7 +100,7 @@ fn operation_size(v: u8, h: u8, x: Operation) -> usize
 
 // The size of the block whose first operation stands at `start`.
 pub fn block_size(file: &[u8], v: u8, h: u8, start: usize) -> usize
-    requires { ⌜ Here (now file) v start ⌝ }
+    requires { ⌜ OperationStands (now file) v start ⌝ }
     ensures { λ r. ⌜ BlockSize (now (file .entry)) v h start r ⌝ }
 {
     let mut at = start;
@@ -143,12 +144,12 @@ fn label_size(
     requires { ⌜ (f < length (programOf (now file))) × (l ≤ length (functionOf (programOf (now file)) f .blocks)) ⌝ }
     ensures { λ r. ⌜ LabelSize (now (file .entry)) f l r ⌝ }
 {
-    let slot = 64 * f + l;
+    let index = 64 * f + l;
     let others = locals[f];
     let v = params[f] + others;
-    let n = bytes::byte_number(by_label(l, others, 0));
-    let at = bytes::offset_number(starts[slot]);
-    let h = handlers[slot];
+    let n = byte_number(by_label(l, others, 0));
+    let at = offset_number(starts[index]);
+    let h = handlers[index];
     let body = block_size(file, v, h, at);
     3 + (6 * n + body)
 }
@@ -167,7 +168,7 @@ fn function_size(
     requires { ⌜ f < length (programOf (now file)) ⌝ }
     ensures { λ r. ⌜ (r ≡ length (functionBytes (now (file .entry)) f)) × (r ≤ 536870912) ⌝ }
 {
-    let labels = bytes::byte_number(blocks[f]);
+    let labels = byte_number(blocks[f]);
     let mut n = 0;
     let mut l = 0;
     while l <= labels {
@@ -190,7 +191,7 @@ pub fn file_size(
     requires { ⌜ Loaded (now file) (now starts) (now handlers) (now params) (now locals) (now blocks) ⌝ }
     ensures { λ r. ⌜ r ≡ length (translationOf (now (file .entry))) ⌝ }
 {
-    let count = bytes::byte_number(file[5]);
+    let count = byte_number(file[5]);
     let mut n = 7;
     let mut f = 0;
     while f < count {

@@ -2,7 +2,7 @@
 use native.Mathlib.Omega.{arith}
 use mathlib.Core.Path.{refl, ap, _∙_}
 use Rattle.parsing.specs.Parser.{verdictOf}
-use Rattle.agreement.specs.SidesLaws.{main-refused, parameters-few, main-14, main-fits}
+use Rattle.agreement.specs.SidesLaws.{main-refused, parameters-bound, main-14, main-fits}
 use borrow.Author.Needs.{needs}
 use Rattle.agreement.proofs.main_checked.Statement.{statement}
 use Rattle.agreement.proofs.main_checked.Tie as tie
@@ -37,7 +37,7 @@ cast-wanted : tie.Need-cast-wanted
 cast-wanted c =
     let at-load = c .before .before in
     let entry = entry-before-load at-load in
-    omega (arith, parameters-few (entry .args .file .now) (entry .args .given) (at-load .load .ensures .0) (c .enum-told .given .1) _ _ _ _ _ _ _ _ _ _ (at-load .load .ensures .1))
+    omega (arith, parameters-bound (entry .args .file .now) (entry .args .given) (at-load .load .ensures .0) (c .enum-told .given .1) _ _ _ _ _ _ _ _ _ _ (at-load .load .ensures .1))
 
 turned-down-requires : tie.Need-turned-down-requires
 turned-down-requires c κs = search needs

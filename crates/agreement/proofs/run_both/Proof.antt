@@ -1,7 +1,7 @@
 -- `agreement::run_both` meets its contract.
 use mathlib.Core.Path.{refl}
 use native.Mathlib.Omega.{arith}
-use Rattle.agreement.specs.SidesLaws.{sum-small, more-small, both-ran}
+use Rattle.agreement.specs.SidesLaws.{sum-small, more-small, machines-ran}
 use borrow.Author.Needs.{needs}
 use Rattle.agreement.proofs.run_both.Statement.{statement}
 use Rattle.agreement.proofs.run_both.Tie as tie
@@ -55,7 +55,7 @@ returns c =
     let at-one-more-if-deep = at-run2 .before .before .before in
     let at-run = at-one-more-if-deep .before .before in
     let entry = entry-before-run at-run in
-    both-ran (entry .pre) (entry .args .budget) (at-run .run .result) (at-run .run .ensures .0) (at-one-more-if-deep .one-more-if-deep .ensures) (at-run2 .run2 .result) _ _ refl
+    machines-ran (entry .pre) (entry .args .budget) (at-run .run .result) (at-run .run .ensures .0) (at-one-more-if-deep .one-more-if-deep .ensures) (at-run2 .run2 .result) _ _ refl
     (at-run2 .run2 .ensures .0) (at-run .run .ensures .1) (at-run2 .run2 .ensures .1)
 
 pub run-both-spec : {M : Type 1} → statement M

@@ -2,7 +2,7 @@
 use mathlib.Core.Path.{refl, sym}
 use native.Mathlib.Omega.{arith}
 use lib.Seq.{length-take-le}
-use Rattle.agreement.specs.SidesLaws.{call-refused, room-refused, size-there, is-ready, ran-both}
+use Rattle.agreement.specs.SidesLaws.{call-refused, room-refused, size-there, call-accepted, call-ran}
 use borrow.Author.Needs.{needs}
 use Rattle.agreement.proofs.side_by_side.Statement.{statement}
 use Rattle.agreement.proofs.side_by_side.Tie as tie
@@ -79,7 +79,7 @@ run-both-requires c κs =
     let at-call-judged = at-enum-told .before .before in
     let at-shared-slice-known = at-call-judged .before .before in
     let entry = at-shared-slice-known .before in
-    is-ready (entry .args .file .now) (entry .args .arguments .now) (entry .args .depth) (entry .args .budget) (entry .args .frames .now) (entry .args .room .now)
+    call-accepted (entry .args .file .now) (entry .args .arguments .now) (entry .args .depth) (entry .args .budget) (entry .args .frames .now) (entry .args .room .now)
     (entry .args .records .now) (at-call-judged .call-judged .ensures) (at-enum-told .enum-told .given .1) (at-translate .translate .result) _
     (at-translate .translate .ensures .0) (at-translate .translate .ensures .1) (at-size .size .given .1)
     (λ i. omega (arith, at-shared-slice-known .shared-slice-known .given i))
@@ -114,7 +114,7 @@ returns-3 c =
     let at-enum-told = at-translate .before .before in
     let at-call-judged = at-enum-told .before .before in
     let entry = entry-before-call-judged at-call-judged in
-    ran-both (entry .args .file .now) (entry .args .arguments .now) (entry .args .depth) (entry .args .budget) (entry .args .frames .now) (entry .args .room .now)
+    call-ran (entry .args .file .now) (entry .args .arguments .now) (entry .args .depth) (entry .args .budget) (entry .args .frames .now) (entry .args .room .now)
     (entry .args .records .now) (at-call-judged .call-judged .ensures) (at-enum-told .enum-told .given .1) (at-translate .translate .result) _
     (at-translate .translate .ensures .0) (at-translate .translate .ensures .1) (at-size .size .given .1) (at-run-both .run-both .result) _ _ (at-run-both .run-both .ensures)
 

@@ -4,7 +4,7 @@ use Rattle.arithmetic.proofs.narrowed.Statement.{statement}
 use Rattle.arithmetic.proofs.narrowed.Tie as tie
 
 add-result : tie.Need-add-result
-add-result c = below-narrowed (c .before .args .d) (c .before .pre) (c .if1 .taken) .wide
+add-result c = below-narrowed (c .before .args .d) (c .before .pre) (c .if1 .taken) .fits64
 
 cast-result : tie.Need-cast-result
 cast-result c = below-narrowed (c .before .args .d) (c .before .pre) (c .if1 .taken) .narrow
@@ -15,7 +15,7 @@ returns c = below-narrowed (c .before .args .d) (c .before .pre) (c .if1 .taken)
 sub-result : tie.Need-sub-result
 sub-result c =
     let entry = c .before .before in
-    above-narrowed (entry .args .d) (entry .pre) (c .if2 .taken) .wide
+    above-narrowed (entry .args .d) (entry .pre) (c .if2 .taken) .fits64
 
 cast-result-2 : tie.Need-cast-result-2
 cast-result-2 c =

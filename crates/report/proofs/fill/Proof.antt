@@ -43,7 +43,7 @@ loop-again c =
     (toZ-ofZ {w = w32} (record { sfits = c .argument .ok }))
 
 same-length : tie.Need-same-length Inv-loop μ-loop
-same-length c = c .before .loop .inv .long
+same-length c = c .before .loop .inv .sameLength
 
 returns : tie.Need-returns Inv-loop μ-loop
 returns c =

@@ -10,7 +10,7 @@ cast-wide c = wide-fits (c .before .args .v) (c .before .fits .v)
 sub-wide : tie.Need-sub-wide
 sub-wide c =
     let entry = c .before in
-    turned (entry .args .v) (entry .fits .v) (sign-of (entry .args .v) _ (entry .fits .v) (c .if1 .taken)) .wide
+    turned (entry .args .v) (entry .fits .v) (sign-of (entry .args .v) _ (entry .fits .v) (c .if1 .taken)) .fits64
 
 cast-result : tie.Need-cast-result
 cast-result c =

@@ -42,7 +42,7 @@ add-result : tie.Need-add-result Inv-loop μ-loop
 add-result c = omega arith
 
 same-length : tie.Need-same-length Inv-loop μ-loop
-same-length c = c .before .loop .inv .long
+same-length c = c .before .loop .inv .sameLength
 
 returns : tie.Need-returns Inv-loop μ-loop
 returns c =

@@ -1,4 +1,5 @@
-use Rattle.procedure_file.specs.FileNamesLaws.{labelsVerdict, functionVerdict, naming-room, start-positive, entry-wrong, entry-right, label-wrong, label-right, labels-done}
+use Rattle.procedure_file.specs.Asked.{functionVerdict}
+use Rattle.procedure_file.specs.FileNamesLaws.{labelsVerdict, naming-room, start-positive, entry-wrong, entry-right, label-wrong, label-right, labels-done}
 use Prim.Native.Nat.{_+_, _-_, _*_}
 use borrow.Author.Needs.{needs}
 use native.Mathlib.Omega.{arith}
@@ -80,15 +81,15 @@ loop-holds c =
     entry-right (entry .args .params .now) (entry .args .file .now) (entry .args .f) (entry .args .labels) (entry .args .variables) (entry .args .starts .now)
     (entry .args .handlers .now) (entry .pre) _ _ refl (c .before .before .block-named .ensures) (c .enum-told .given .1)
 
-add-slot : tie.Need-add-slot Inv-loop μ-loop
-add-slot c =
+add-index : tie.Need-add-index Inv-loop μ-loop
+add-index c =
     let entry = entry-before-in-loop c in
     let r = (naming-room (entry .args .params .now) (entry .args .file .now) (entry .args .f) (entry .args .labels) (entry .args .variables) (entry .args .starts .now) (entry
     .args .handlers .now) (entry .pre)) in
     omega (arith, r .1, c .loop-test .taken)
 
-add-slot-2 : tie.Need-add-slot-2 Inv-loop μ-loop
-add-slot-2 c =
+add-index-2 : tie.Need-add-index-2 Inv-loop μ-loop
+add-index-2 c =
     let entry = entry-before-in-loop c in
     let r = (naming-room (entry .args .params .now) (entry .args .file .now) (entry .args .f) (entry .args .labels) (entry .args .variables) (entry .args .starts .now) (entry
     .args .handlers .now) (entry .pre)) in
@@ -187,8 +188,8 @@ function-named-spec =
     returns
     enum-told
     loop-holds
-    add-slot
-    add-slot-2
+    add-index
+    add-index-2
     mul-start
     shared-slice-read-start
     cast-start

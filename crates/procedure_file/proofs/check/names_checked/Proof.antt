@@ -1,4 +1,5 @@
 use Prim.Native.Nat.{ℕ}
+use Rattle.procedure_file.specs.AcceptedLaws.{laid-reads}
 use Rattle.procedure_file.specs.FileNamesLaws.{naming-given}
 use lib.Seq.{length-take-le}
 use lib.ListN.{length-replicate}
@@ -37,13 +38,16 @@ slice-aggregate-file-named-2 : tie.Need-slice-aggregate-file-named-2
 slice-aggregate-file-named-2 c = search needs
 
 array-share-prefix-params : tie.Need-array-share-prefix-params
-array-share-prefix-params c = search needs
+array-share-prefix-params c =
+    let at-fill = c .before .before .before .before .before .before .before in
+    let entry = entry-before-fill at-fill in
+    omega (arith, at-fill .fill .ensures .countIs, laid-reads (entry .pre) .most)
 
 slice-aggregate-file-named-3 : tie.Need-slice-aggregate-file-named-3
 slice-aggregate-file-named-3 c =
     let at-fill = c .before .before .before .before .before .before .before .before in
     let entry = entry-before-fill at-fill in
-    sym (length-take-le _ _ (omega (arith, at-fill .fill .ensures .countIs, entry .pre .reads .most, at-fill .fill .kept .1 .1 .1 .0)))
+    sym (length-take-le _ _ (omega (arith, at-fill .fill .ensures .countIs, laid-reads (entry .pre) .most, at-fill .fill .kept .1 .1 .1 .0)))
 
 slice-aggregate-file-named-4 : tie.Need-slice-aggregate-file-named-4
 slice-aggregate-file-named-4 c = search needs

@@ -1,4 +1,4 @@
-use Rattle.procedure_file.specs.LookupLaws.{find-none, find-function, find-label, find-slot, find-entry, find-positive, find-labelled}
+use Rattle.procedure_file.specs.LookupLaws.{find-none, find-function, find-label, find-index, find-entry, find-positive, find-labelled}
 use Rattle.procedure_names.specs.NamedLaws.{function-is, function-none}
 use Prim.Native.Nat.{_+_, _*_}
 use native.Mathlib.Omega.{arith}
@@ -55,26 +55,26 @@ returns c =
     (function-is (entry .args .f) (entry .args .count) (at-number .number .given .0 .0) (sym (at-function-number .function-number .ensures) ∙ at-number .number .given .1))
     (c .if1 .taken)
 
-mul-slot : tie.Need-mul-slot
-mul-slot c =
+mul-index : tie.Need-mul-index
+mul-index c =
     let at-number = number-before-else1 c in
     let at-function-number = at-number .before .before in
     let entry = entry-before-function-number at-function-number in
     omega (
       arith,
-      find-slot (entry .args .file .now) (entry .args .count) (entry .args .starts .now) (entry .args .blocks .now) (entry .pre) (entry .args .f) (entry .args .label)
+      find-index (entry .args .file .now) (entry .args .count) (entry .args .starts .now) (entry .args .blocks .now) (entry .pre) (entry .args .f) (entry .args .label)
           (at-number .number .given .0 .0 .0) (function-is (entry .args .f) (entry .args .count) (at-number .number .given .0 .0) (sym (at-function-number .function-number .ensures)
           ∙ at-number .number .given .1)) (c .if1 .left),
     )
 
-add-slot : tie.Need-add-slot
-add-slot c =
+add-index : tie.Need-add-index
+add-index c =
     let at-number = number-before-else1 c in
     let at-function-number = at-number .before .before in
     let entry = entry-before-function-number at-function-number in
     omega (
       arith,
-      find-slot (entry .args .file .now) (entry .args .count) (entry .args .starts .now) (entry .args .blocks .now) (entry .pre) (entry .args .f) (entry .args .label)
+      find-index (entry .args .file .now) (entry .args .count) (entry .args .starts .now) (entry .args .blocks .now) (entry .pre) (entry .args .f) (entry .args .label)
           (at-number .number .given .0 .0 .0) (function-is (entry .args .f) (entry .args .count) (at-number .number .given .0 .0) (sym (at-function-number .function-number .ensures)
           ∙ at-number .number .given .1)) (c .if1 .left),
     )
@@ -86,7 +86,7 @@ mul-start c =
     let entry = entry-before-function-number at-function-number in
     omega (
       arith,
-      find-slot (entry .args .file .now) (entry .args .count) (entry .args .starts .now) (entry .args .blocks .now) (entry .pre) (entry .args .f) (entry .args .label)
+      find-index (entry .args .file .now) (entry .args .count) (entry .args .starts .now) (entry .args .blocks .now) (entry .pre) (entry .args .f) (entry .args .label)
           (at-number .number .given .0 .0 .0) (function-is (entry .args .f) (entry .args .count) (at-number .number .given .0 .0) (sym (at-function-number .function-number .ensures)
           ∙ at-number .number .given .1)) (c .if1 .left),
     )
@@ -98,7 +98,7 @@ shared-slice-read-start c =
     let entry = entry-before-function-number at-function-number in
     omega (
       arith,
-      find-slot (entry .args .file .now) (entry .args .count) (entry .args .starts .now) (entry .args .blocks .now) (entry .pre) (entry .args .f) (entry .args .label)
+      find-index (entry .args .file .now) (entry .args .count) (entry .args .starts .now) (entry .args .blocks .now) (entry .pre) (entry .args .f) (entry .args .label)
           (at-number .number .given .0 .0 .0) (function-is (entry .args .f) (entry .args .count) (at-number .number .given .0 .0) (sym (at-function-number .function-number .ensures)
           ∙ at-number .number .given .1)) (c .before .if1 .left),
       entry .pre .startsLong,
@@ -162,8 +162,8 @@ find-in-spec =
     cast-i
     shared-slice-read-if1
     returns
-    mul-slot
-    add-slot
+    mul-index
+    add-index
     mul-start
     shared-slice-read-start
     cast-start

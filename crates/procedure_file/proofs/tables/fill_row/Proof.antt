@@ -68,8 +68,8 @@ loop-holds c =
 add-l : tie.Need-add-l Inv-loop μ-loop
 add-l c = let r = (row-room _ _ _ _ _ _ _ (c .before .loop .inv) (c .loop-test .taken)) in omega (arith, r .0)
 
-add-slot : tie.Need-add-slot Inv-loop μ-loop
-add-slot c = let r = (row-room _ _ _ _ _ _ _ (c .before .loop .inv) (c .loop-test .taken)) in omega (arith, r .0)
+add-index : tie.Need-add-index Inv-loop μ-loop
+add-index c = let r = (row-room _ _ _ _ _ _ _ (c .before .loop .inv) (c .loop-test .taken)) in omega (arith, r .0)
 
 add-start : tie.Need-add-start Inv-loop μ-loop
 add-start c = let r = (row-room _ _ _ _ _ _ _ (c .before .loop .inv) (c .loop-test .taken)) in omega (arith, r .1, r .2)
@@ -126,7 +126,7 @@ fill-row-spec =
     block-past-requires
     loop-holds
     add-l
-    add-slot
+    add-index
     add-start
     shared-slice-read-handler
     put-block-requires-2

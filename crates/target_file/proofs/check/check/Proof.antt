@@ -7,7 +7,7 @@ use Rattle.target_file.proofs.check.check.Tie as tie
 use Rattle.target_file.proofs.check.check.Reads as reads
 use Rattle.target_file.proofs.check.check.Lts as lts
 use Rattle.target_file.proofs.check.names_checked.Reads as names-checked-reads
-use Rattle.target_file.proofs.layout.code_end.Reads as code-end-reads
+use Rattle.target_layout.proofs.layout.code_end.Reads as code-end-reads
 
 returns : tie.Need-returns
 returns c = check-long _ (c .if1 .taken)

@@ -8,9 +8,9 @@ use Rattle.target_file.proofs.check.names_checked.Statement.{statement}
 use Rattle.target_file.proofs.check.names_checked.Tie as tie
 use Rattle.target_file.proofs.check.names_checked.Reads as reads
 use Rattle.target_file.proofs.check.names_checked.Lts as lts
-use Rattle.target_file.proofs.layout.code_end.Reads as code-end-reads
+use Rattle.target_layout.proofs.layout.code_end.Reads as code-end-reads
 use Rattle.target_file.proofs.tables.tables_of.Reads as tables-of-reads
-use Rattle.target_tags.proofs.tag.pair.Reads as pair-reads
+use Rattle.casts.proofs.pair.Reads as pair-reads
 
 -- Ways back to earlier places that several answers take.
 abbrev tables-of-before-pair : tie.After-pair → tie.After-tables-of
@@ -43,7 +43,7 @@ array-share-prefix-params c =
     let f = laid-file _ (entry .pre) in
     let n = (c .pair .ensures ∙ laid-file _ (entry .pre) .counted) in
     let m = f .most in
-    let b = at-tables-of .tables-of .ensures .broad in
+    let b = at-tables-of .tables-of .ensures .countsLength in
     omega (arith, n, b)
 
 slice-aggregate-code-end : tie.Need-slice-aggregate-code-end
@@ -53,7 +53,7 @@ slice-aggregate-code-end c =
     let f = laid-file _ (entry .pre) in
     let n = (c .before .pair .ensures ∙ laid-file _ (entry .pre) .counted) in
     let m = f .most in
-    let b = at-tables-of .tables-of .ensures .broad in
+    let b = at-tables-of .tables-of .ensures .countsLength in
     sym (length-take-le _ _ (omega (arith, n, b)))
 
 code-end-requires : tie.Need-code-end-requires

@@ -9,7 +9,7 @@ use Rattle.target_file.proofs.tables.tables_of.Statement.{statement}
 use Rattle.target_file.proofs.tables.tables_of.Tie as tie
 use Rattle.target_file.proofs.tables.tables_of.Reads as reads
 use Rattle.target_file.proofs.tables.tables_of.Lts as lts
-use Rattle.target_tags.proofs.tag.pair.Reads as pair-reads
+use Rattle.casts.proofs.pair.Reads as pair-reads
 
 abbrev Inv-loop : tie.InvT-loop
 Inv-loop file n starts₀ params₀ at₀ i₀ starts params at i = Turn file (codeOf file) i at starts params
@@ -50,7 +50,7 @@ add-body c =
     let m = f .most in
     let t = c .loop-test .taken in
     let h = turn-head _ _ _ _ _ _ (c .before .loop .inv) (omega (arith, n, t)) in
-    let z = entry .pre .short in
+    let z = entry .pre .fileBound in
     omega (arith, n, h .inside, h .sized)
 
 shared-slice-read-params : tie.Need-shared-slice-read-params Inv-loop μ-loop
@@ -63,7 +63,7 @@ shared-slice-read-params c =
     let m = f .most in
     let t = c .before .loop-test .taken in
     let h = turn-head _ _ _ _ _ _ (at-loop .loop .inv) (omega (arith, n, t)) in
-    let z = entry .pre .short in
+    let z = entry .pre .fileBound in
     omega (arith, n, h .inside, h .sized)
 
 array-write-params : tie.Need-array-write-params Inv-loop μ-loop
@@ -76,7 +76,7 @@ array-write-params c =
     let m = f .most in
     let t = c .before .loop-test .taken in
     let h = turn-head _ _ _ _ _ _ (at-loop .loop .inv) (omega (arith, n, t)) in
-    let z = entry .pre .short in
+    let z = entry .pre .fileBound in
     omega (arith, n, h .inside, h .sized)
 
 cast-starts : tie.Need-cast-starts Inv-loop μ-loop
@@ -89,7 +89,7 @@ cast-starts c =
     let m = f .most in
     let t = c .before .loop-test .taken in
     let h = turn-head _ _ _ _ _ _ (at-loop .loop .inv) (omega (arith, n, t)) in
-    let z = entry .pre .short in
+    let z = entry .pre .fileBound in
     omega (arith, n, h .inside, h .sized)
 
 mul-starts : tie.Need-mul-starts Inv-loop μ-loop
@@ -102,7 +102,7 @@ mul-starts c =
     let m = f .most in
     let t = c .before .loop-test .taken in
     let h = turn-head _ _ _ _ _ _ (at-loop .loop .inv) (omega (arith, n, t)) in
-    let z = entry .pre .short in
+    let z = entry .pre .fileBound in
     omega (arith, n, h .inside, h .sized)
 
 array-write-starts : tie.Need-array-write-starts Inv-loop μ-loop
@@ -115,7 +115,7 @@ array-write-starts c =
     let m = f .most in
     let t = c .before .loop-test .taken in
     let h = turn-head _ _ _ _ _ _ (at-loop .loop .inv) (omega (arith, n, t)) in
-    let z = entry .pre .short in
+    let z = entry .pre .fileBound in
     omega (arith, n, h .inside, h .sized)
 
 add-field : tie.Need-add-field Inv-loop μ-loop
@@ -128,7 +128,7 @@ add-field c =
     let m = f .most in
     let t = c .before .loop-test .taken in
     let h = turn-head _ _ _ _ _ _ (at-loop .loop .inv) (omega (arith, n, t)) in
-    let z = entry .pre .short in
+    let z = entry .pre .fileBound in
     omega (arith, n, h .inside, h .sized)
 
 shared-slice-read-pair-3 : tie.Need-shared-slice-read-pair-3 Inv-loop μ-loop
@@ -142,7 +142,7 @@ shared-slice-read-pair-3 c =
     let m = f .most in
     let t = at-loop-test .loop-test .taken in
     let h = turn-head _ _ _ _ _ _ (at-loop .loop .inv) (omega (arith, n, t)) in
-    let z = entry .pre .short in
+    let z = entry .pre .fileBound in
     omega (arith, n, h .inside, h .sized)
 
 add-pair : tie.Need-add-pair Inv-loop μ-loop
@@ -156,7 +156,7 @@ add-pair c =
     let m = f .most in
     let t = at-loop-test .loop-test .taken in
     let h = turn-head _ _ _ _ _ _ (at-loop .loop .inv) (omega (arith, n, t)) in
-    let z = entry .pre .short in
+    let z = entry .pre .fileBound in
     omega (arith, n, h .inside, h .sized)
 
 shared-slice-read-pair-4 : tie.Need-shared-slice-read-pair-4 Inv-loop μ-loop
@@ -170,7 +170,7 @@ shared-slice-read-pair-4 c =
     let m = f .most in
     let t = at-loop-test .loop-test .taken in
     let h = turn-head _ _ _ _ _ _ (at-loop .loop .inv) (omega (arith, n, t)) in
-    let z = entry .pre .short in
+    let z = entry .pre .fileBound in
     omega (arith, n, h .inside, h .sized)
 
 pair-requires-2 : tie.Need-pair-requires-2 Inv-loop μ-loop
@@ -187,7 +187,7 @@ add-at c =
     let m = f .most in
     let t = at-loop-test .loop-test .taken in
     let h = turn-head _ _ _ _ _ _ (at-loop .loop .inv) (omega (arith, n, t)) in
-    let z = entry .pre .short in
+    let z = entry .pre .fileBound in
     let p = c .pair2 .ensures in
     omega (arith, n, h .inside, h .sized, p)
 

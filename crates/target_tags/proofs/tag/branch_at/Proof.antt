@@ -7,8 +7,8 @@ use Rattle.target_tags.proofs.tag.branch_at.Tie as tie
 use Rattle.target_tags.proofs.tag.branch_at.Reads as reads
 use Rattle.target_tags.proofs.tag.branch_at.Lts as lts
 use Rattle.target_tags.proofs.tag.cut.Reads as cut-reads
-use Rattle.target_tags.proofs.tag.pair.Reads as pair-reads
-use Rattle.target_tags.proofs.tag.wide.Reads as wide-reads
+use Rattle.casts.proofs.pair.Reads as pair-reads
+use Rattle.casts.proofs.byte_number.Reads as byte-number-reads
 
 add-next : tie.Need-add-next
 add-next c = search needs
@@ -19,23 +19,23 @@ cut-requires c κs = search needs
 returns : tie.Need-returns
 returns c = c .cut .ensures ∙ branch-cut _ _ (c .before .if1 .taken)
 
-add-wide : tie.Need-add-wide
-add-wide c = search needs
+add-byte-number : tie.Need-add-byte-number
+add-byte-number c = search needs
 
-shared-slice-read-wide : tie.Need-shared-slice-read-wide
-shared-slice-read-wide c = search needs
+shared-slice-read-byte-number : tie.Need-shared-slice-read-byte-number
+shared-slice-read-byte-number c = search needs
 
-wide-requires : tie.Need-wide-requires
-wide-requires c κs = search needs
+byte-number-requires : tie.Need-byte-number-requires
+byte-number-requires c κs = search needs
 
-add-wide-2 : tie.Need-add-wide-2
-add-wide-2 c = search needs
+add-byte-number-2 : tie.Need-add-byte-number-2
+add-byte-number-2 c = search needs
 
-shared-slice-read-wide-2 : tie.Need-shared-slice-read-wide-2
-shared-slice-read-wide-2 c = search needs
+shared-slice-read-byte-number-2 : tie.Need-shared-slice-read-byte-number-2
+shared-slice-read-byte-number-2 c = search needs
 
-wide-requires-2 : tie.Need-wide-requires-2
-wide-requires-2 c κs = search needs
+byte-number-requires-2 : tie.Need-byte-number-requires-2
+byte-number-requires-2 c κs = search needs
 
 add-field : tie.Need-add-field
 add-field c = search needs
@@ -54,9 +54,9 @@ pair-requires c κs = search needs
 
 returns-2 : tie.Need-returns-2
 returns-2 c =
-    let at-wide2 = c .before .before .before in
-    let at-wide = at-wide2 .before .before in
-    branch-in _ _ _ _ _ (omega arith) (at-wide .wide .ensures) (at-wide2 .wide2 .ensures) (c .pair .ensures)
+    let at-byte-number2 = c .before .before .before in
+    let at-byte-number = at-byte-number2 .before .before in
+    branch-in _ _ _ _ _ (omega arith) (at-byte-number .byte-number .ensures .0) (at-byte-number2 .byte-number2 .ensures .0) (c .pair .ensures)
 
 pub branch-at-spec : {M : Type 1} → statement M
 branch-at-spec =
@@ -65,12 +65,12 @@ branch-at-spec =
     add-next
     cut-requires
     returns
-    add-wide
-    shared-slice-read-wide
-    wide-requires
-    add-wide-2
-    shared-slice-read-wide-2
-    wide-requires-2
+    add-byte-number
+    shared-slice-read-byte-number
+    byte-number-requires
+    add-byte-number-2
+    shared-slice-read-byte-number-2
+    byte-number-requires-2
     add-field
     shared-slice-read-pair
     add-pair

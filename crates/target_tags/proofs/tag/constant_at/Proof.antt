@@ -9,7 +9,7 @@ use Rattle.target_tags.proofs.tag.constant_at.Reads as reads
 use Rattle.target_tags.proofs.tag.constant_at.Lts as lts
 use Rattle.parsing.proofs.value.Reads as value-reads
 use Rattle.target_tags.proofs.tag.cut.Reads as cut-reads
-use Rattle.target_tags.proofs.tag.wide.Reads as wide-reads
+use Rattle.casts.proofs.byte_number.Reads as byte-number-reads
 
 add-next : tie.Need-add-next
 add-next c = search needs
@@ -20,14 +20,14 @@ cut-requires c κs = search needs
 returns : tie.Need-returns
 returns c = c .cut .ensures ∙ constant-cut _ _ (c .before .if1 .taken)
 
-add-wide : tie.Need-add-wide
-add-wide c = search needs
+add-byte-number : tie.Need-add-byte-number
+add-byte-number c = search needs
 
-shared-slice-read-wide : tie.Need-shared-slice-read-wide
-shared-slice-read-wide c = search needs
+shared-slice-read-byte-number : tie.Need-shared-slice-read-byte-number
+shared-slice-read-byte-number c = search needs
 
-wide-requires : tie.Need-wide-requires
-wide-requires c κs = search needs
+byte-number-requires : tie.Need-byte-number-requires
+byte-number-requires c κs = search needs
 
 add-i : tie.Need-add-i
 add-i c = search needs
@@ -58,8 +58,8 @@ value-requires c κs = search needs
 
 returns-2 : tie.Need-returns-2
 returns-2 c =
-    let at-wide = c .before .before .before .before .before in
-    constant-in _ _ _ _ (omega arith) (at-wide .wide .ensures) (toZ-ofZ (record { sfits = c .value .ok }) ∙ c .value .ensures)
+    let at-byte-number = c .before .before .before .before .before in
+    constant-in _ _ _ _ (omega arith) (at-byte-number .byte-number .ensures .0) (toZ-ofZ (record { sfits = c .value .ok }) ∙ c .value .ensures)
 
 pub constant-at-spec : {M : Type 1} → statement M
 constant-at-spec =
@@ -68,9 +68,9 @@ constant-at-spec =
     add-next
     cut-requires
     returns
-    add-wide
-    shared-slice-read-wide
-    wide-requires
+    add-byte-number
+    shared-slice-read-byte-number
+    byte-number-requires
     add-i
     shared-slice-read-value
     add-value

@@ -7,7 +7,7 @@ use Rattle.target_tags.proofs.tag.handle_at.Tie as tie
 use Rattle.target_tags.proofs.tag.handle_at.Reads as reads
 use Rattle.target_tags.proofs.tag.handle_at.Lts as lts
 use Rattle.target_tags.proofs.tag.cut.Reads as cut-reads
-use Rattle.target_tags.proofs.tag.wide.Reads as wide-reads
+use Rattle.casts.proofs.byte_number.Reads as byte-number-reads
 
 add-next : tie.Need-add-next
 add-next c = search needs
@@ -18,17 +18,17 @@ cut-requires c κs = search needs
 returns : tie.Need-returns
 returns c = c .cut .ensures ∙ handle-cut _ _ (c .before .if1 .taken)
 
-add-wide : tie.Need-add-wide
-add-wide c = search needs
+add-byte-number : tie.Need-add-byte-number
+add-byte-number c = search needs
 
-shared-slice-read-wide : tie.Need-shared-slice-read-wide
-shared-slice-read-wide c = search needs
+shared-slice-read-byte-number : tie.Need-shared-slice-read-byte-number
+shared-slice-read-byte-number c = search needs
 
-wide-requires : tie.Need-wide-requires
-wide-requires c κs = search needs
+byte-number-requires : tie.Need-byte-number-requires
+byte-number-requires c κs = search needs
 
 returns-2 : tie.Need-returns-2
-returns-2 c = handle-in _ _ _ (omega arith) (c .wide .ensures)
+returns-2 c = handle-in _ _ _ (omega arith) (c .byte-number .ensures .0)
 
 pub handle-at-spec : {M : Type 1} → statement M
 handle-at-spec =
@@ -37,7 +37,7 @@ handle-at-spec =
     add-next
     cut-requires
     returns
-    add-wide
-    shared-slice-read-wide
-    wide-requires
+    add-byte-number
+    shared-slice-read-byte-number
+    byte-number-requires
     returns-2)

@@ -6,7 +6,7 @@ use Rattle.target_tags.proofs.tag.tag_at.Statement.{statement}
 use Rattle.target_tags.proofs.tag.tag_at.Tie as tie
 use Rattle.target_tags.proofs.tag.tag_at.Reads as reads
 use Rattle.target_tags.proofs.tag.tag_at.Lts as lts
-use Rattle.target_tags.proofs.tag.both_at.Reads as both-at-reads
+use Rattle.target_tags.proofs.tag.continuation_with_handler_at.Reads as continuation-with-handler-at-reads
 use Rattle.target_tags.proofs.tag.branch_at.Reads as branch-at-reads
 use Rattle.target_tags.proofs.tag.constant_at.Reads as constant-at-reads
 use Rattle.target_tags.proofs.tag.continuation_at.Reads as continuation-at-reads
@@ -50,8 +50,8 @@ branch-at-requires c κs = search needs
 continuation-at-requires : tie.Need-continuation-at-requires
 continuation-at-requires c κs = search needs
 
-both-at-requires : tie.Need-both-at-requires
-both-at-requires c κs = search needs
+continuation-with-handler-at-requires : tie.Need-continuation-with-handler-at-requires
+continuation-with-handler-at-requires c κs = search needs
 
 returns-2 : tie.Need-returns-2
 returns-2 c = c .constant-at .ensures ∙ tag-1 _ _ (omega arith) (c .before .match .keys1)
@@ -78,7 +78,7 @@ returns-9 : tie.Need-returns-9
 returns-9 c = c .continuation-at .ensures ∙ tag-8 _ _ (omega arith) (c .before .match .keys8)
 
 returns-10 : tie.Need-returns-10
-returns-10 c = c .both-at .ensures ∙ tag-9 _ _ (omega arith) (c .before .match .keys9)
+returns-10 c = c .continuation-with-handler-at .ensures ∙ tag-9 _ _ (omega arith) (c .before .match .keys9)
 
 returns-11 : tie.Need-returns-11
 returns-11 c =
@@ -100,7 +100,7 @@ tag-at-spec =
     handle-at-requires
     branch-at-requires
     continuation-at-requires
-    both-at-requires
+    continuation-with-handler-at-requires
     returns-2
     returns-3
     returns-4

@@ -1,6 +1,6 @@
 -- `translator::blocks::put_block` meets its contract.
 use Rattle.translator.specs.BlockLaws.{Turn, turn-none, turn-room, turn-next, turn-moves, turn-done, turn-never}
-use Rattle.translator.specs.WriteLaws.{long}
+use Rattle.translator_bytes.specs.WriteLaws.{wrote-length}
 use mathlib.Core.Path.{_∙_}
 use lib.ListN.{length}
 use Prim.Native.Nat.{_-_}
@@ -9,7 +9,7 @@ use borrow.Author.Needs.{needs}
 use Rattle.translator.proofs.blocks.put_block.Statement.{statement}
 use Rattle.translator.proofs.blocks.put_block.Tie as tie
 use Rattle.procedure_layout.proofs.layout.after_of.Reads as after-of-reads
-use Rattle.procedure_layout.proofs.operation.operation_at.Reads as operation-at-reads
+use Rattle.procedure_operations.proofs.operation.operation_at.Reads as operation-at-reads
 
 abbrev Inv-loop : tie.InvT-loop
 Inv-loop file numbers base v h start out₀ o at₀ place₀ out at place = Turn file numbers base v h start o out₀ at place out
@@ -75,7 +75,7 @@ same-length c =
     let at-put-operation = put-operation-before-enum-told c in
     let at-operation-at = at-put-operation .before .before in
     let at-loop = at-operation-at .before in
-    long (turn-room (at-loop .loop .inv) (at-operation-at .operation-at .ensures)) (at-put-operation .put-operation .ensures) ∙ at-loop .loop .inv .rest .long
+    wrote-length (turn-room (at-loop .loop .inv) (at-operation-at .operation-at .ensures)) (at-put-operation .put-operation .ensures) ∙ at-loop .loop .inv .rest .sameLength
 
 returns : tie.Need-returns Inv-loop μ-loop
 returns c =
@@ -93,7 +93,7 @@ same-length-2 c =
     let at-put-operation = put-operation-before-enum-told2 c in
     let at-operation-at = at-put-operation .before .before in
     let at-loop = at-operation-at .before in
-    long (turn-room (at-loop .loop .inv) (at-operation-at .operation-at .ensures)) (at-put-operation .put-operation .ensures) ∙ at-loop .loop .inv .rest .long
+    wrote-length (turn-room (at-loop .loop .inv) (at-operation-at .operation-at .ensures)) (at-put-operation .put-operation .ensures) ∙ at-loop .loop .inv .rest .sameLength
 
 returns-2 : tie.Need-returns-2 Inv-loop μ-loop
 returns-2 c =

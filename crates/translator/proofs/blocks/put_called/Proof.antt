@@ -1,6 +1,6 @@
 -- `translator::blocks::put_called` meets its contract.
-use Rattle.translator.specs.JumpLaws.{room-as, wrote-as}
-use Rattle.translator.specs.Bytes.{callBytes}
+use Rattle.translator_bytes.specs.JumpLaws.{room-as, wrote-as}
+use Rattle.translator_bytes.specs.Bytes.{callBytes}
 use Rattle.procedure_layout.specs.Layout.{argumentsAt}
 use mathlib.Core.Path.{ap, sym}
 use Prim.Native.Nat.{ℕ}

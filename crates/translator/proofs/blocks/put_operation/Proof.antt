@@ -1,8 +1,8 @@
 -- `translator::blocks::put_operation` meets its contract.
 use native.Mathlib.Omega.{arith}
 use Rattle.translator.specs.BlockLaws.{arm-fine, arm-room, arm-wrote, constant-bytes}
-use Rattle.translator.specs.OperationLaws.{few-variables, fine}
-use Rattle.translator.specs.JumpLaws.{room-as, wrote-as}
+use Rattle.translator.specs.OperationLaws.{variables-bound, fine}
+use Rattle.translator_bytes.specs.JumpLaws.{room-as, wrote-as}
 use borrow.Author.Needs.{needs}
 use Rattle.translator.proofs.blocks.put_operation.Statement.{statement}
 use Rattle.translator.proofs.blocks.put_operation.Tie as tie
@@ -76,7 +76,7 @@ put-called-requires c κs =
     let at-x4 = c .before .before in
     let entry = entry-before-x4 at-x4 in
     let F = arm-fine (entry .pre .0 .0) (entry .pre .0 .1) (at-x4 .x4 .given .1) in (
-      (entry .pre .0 .0 .low, few-variables (entry .pre .0 .0 .here), F .0, F .2, omega (arith, F .1, entry .pre .0 .0 .here .facts .most), F .3),
+      (entry .pre .0 .0 .baseBound, variables-bound (entry .pre .0 .0 .here), F .0, F .2, omega (arith, F .1, entry .pre .0 .0 .here .invariant .most), F .3),
       arm-room (entry .args .file .now) (entry .args .numbers .now) (entry .args .base) (entry .args .v) (entry .args .h) (entry .args .at) (at-x4 .x4 .given .1) (entry .pre .1),
     )
 
@@ -86,7 +86,7 @@ enum-known-x-5 c = search needs
 put-label-jump-requires : tie.Need-put-label-jump-requires
 put-label-jump-requires c κs =
     let entry = c .before .before .before .before .before .before in (
-      (entry .pre .0 .0 .low, few-variables (entry .pre .0 .0 .here)),
+      (entry .pre .0 .0 .baseBound, variables-bound (entry .pre .0 .0 .here)),
       arm-room (entry .args .file .now) (entry .args .numbers .now) (entry .args .base) (entry .args .v) (entry
           .args .h) (entry .args .at) (c .before .before .x5 .given .1) (entry .pre .1),
     )
@@ -111,7 +111,7 @@ put-branch-requires c κs =
     let at-x7 = c .before .before in
     let entry = entry-before-x7 at-x7 in
     let F = arm-fine (entry .pre .0 .0) (entry .pre .0 .1) (at-x7 .x7 .given .1) in (
-      (entry .pre .0 .0 .low, few-variables (entry .pre .0 .0 .here), F .0, F .1),
+      (entry .pre .0 .0 .baseBound, variables-bound (entry .pre .0 .0 .here), F .0, F .1),
       arm-room (entry .args .file .now) (entry .args .numbers .now) (entry .args .base) (entry .args
           .v) (entry .args .h) (entry .args .at) (at-x7 .x7 .given .1) (entry .pre .1),
     )
@@ -122,7 +122,7 @@ enum-told c = search needs
 put-raise-requires : tie.Need-put-raise-requires
 put-raise-requires c κs =
     let entry = c .before .before .before .before .before in (
-      (entry .pre .0 .0 .low, few-variables (entry .pre .0 .0 .here)),
+      (entry .pre .0 .0 .baseBound, variables-bound (entry .pre .0 .0 .here)),
       arm-room (entry .args .file .now) (entry .args .numbers .now) (entry .args .base) (entry .args .v) (entry
           .args .h) (entry .args .at) (c .before .enum-told .given .1) (entry .pre .1),
     )

@@ -25,7 +25,7 @@ loop-holds c =
 cast-numbers : tie.Need-cast-numbers Inv-loop μ-loop
 cast-numbers c =
     let entry = entry-before-in-loop c in
-    omega (arith, c .before .loop .inv .0 .few, c .loop-test .taken, entry .pre .0)
+    omega (arith, c .before .loop .inv .0 .numberBound, c .loop-test .taken, entry .pre .0)
 
 mul-numbers : tie.Need-mul-numbers Inv-loop μ-loop
 mul-numbers c = search needs
@@ -33,7 +33,7 @@ mul-numbers c = search needs
 slice-write-numbers : tie.Need-slice-write-numbers Inv-loop μ-loop
 slice-write-numbers c =
     let entry = entry-before-in-loop c in
-    omega (arith, c .before .loop .inv .0 .wide, c .loop-test .taken, entry .pre .0)
+    omega (arith, c .before .loop .inv .0 .tableLength, c .loop-test .taken, entry .pre .0)
 
 element-copy-out-byte-number : tie.Need-element-copy-out-byte-number Inv-loop μ-loop
 element-copy-out-byte-number c =
@@ -51,7 +51,7 @@ add-n-2 c =
     let at-loop-test = c .before .before in
     let at-loop = at-loop-test .before in
     let entry = at-loop .before .before in
-    omega (arith, c .byte-number .ensures .1, at-loop .loop .inv .0 .few, at-loop-test .loop-test .taken, entry .pre .0)
+    omega (arith, c .byte-number .ensures .1, at-loop .loop .inv .0 .numberBound, at-loop-test .loop-test .taken, entry .pre .0)
 
 add-f : tie.Need-add-f Inv-loop μ-loop
 add-f c =
@@ -76,7 +76,7 @@ loop-again c =
 same-length : tie.Need-same-length Inv-loop μ-loop
 same-length c =
     let entry = c .before .before .before in
-    c .before .loop .inv .0 .wide ∙ sym (entry .pre .1)
+    c .before .loop .inv .0 .tableLength ∙ sym (entry .pre .1)
 
 returns : tie.Need-returns Inv-loop μ-loop
 returns c = numbering-end (c .before .loop .inv .0) (omega (arith, c .before .loop .inv .1, c .loop-test .left))

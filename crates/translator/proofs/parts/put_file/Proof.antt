@@ -1,6 +1,6 @@
 -- `translator::parts::put_file` meets its contract.
-use Rattle.translator.specs.FileLaws.{targets-are, targets-low, number-from, mark-room, version-room, targets-room, functions-room, file-wrote}
-use Rattle.translator.specs.PartLaws.{few-functions, count-is, inside}
+use Rattle.translator.specs.FileLaws.{targets-are, targets-bound, number-from, mark-room, version-room, targets-room, functions-room, file-wrote}
+use Rattle.translator.specs.PartLaws.{functions-bound, count-is, inside}
 use mathlib.Core.Path.{_∙_}
 use native.Mathlib.Omega.{arith}
 use borrow.Author.Needs.{needs}
@@ -34,7 +34,7 @@ slice-aggregate-fill-numbers c = search needs
 fill-numbers-requires : tie.Need-fill-numbers-requires
 fill-numbers-requires c κs =
     let entry = c .before .before .before .before .before in
-    (omega (arith, c .before .byte-number .ensures .0, count-is (entry .pre .0), few-functions (entry .pre .0)), search needs)
+    (omega (arith, c .before .byte-number .ensures .0, count-is (entry .pre .0), functions-bound (entry .pre .0)), search needs)
 
 element-copy-out-put-three : tie.Need-element-copy-out-put-three
 element-copy-out-put-three c = search needs
@@ -73,7 +73,7 @@ put-pair-requires c κs =
       omega (
         arith,
         targets-are (entry .pre .0) (at-byte-number .byte-number .ensures .0 ∙ count-is (entry .pre .0)) (at-fill-numbers .fill-numbers .ensures .0),
-        targets-low (entry .pre .0),
+        targets-bound (entry .pre .0),
       ),
       targets-room (entry .args .file .now) (targets-are (entry .pre .0) (at-byte-number .byte-number .ensures .0 ∙ count-is (entry .pre .0))
           (at-fill-numbers .fill-numbers .ensures .0)) (entry .pre .1) (at-put-three .put-three .ensures) (at-put-two .put-two .ensures),

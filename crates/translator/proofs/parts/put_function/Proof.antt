@@ -1,8 +1,8 @@
 -- `translator::parts::put_function` meets its contract.
-use Rattle.translator.specs.FileLaws.{blocksFrom, blocks-first, blocks-more, blocks-none, label-inside, label-outside, labels-low}
-use Rattle.translator.specs.WriteLaws.{Rest, rest-from, rest-as, rest-more, rest-done, room-front}
+use Rattle.translator.specs.FileLaws.{blocksFrom, blocks-first, blocks-more, blocks-none, label-inside, label-outside, labels-bound}
+use Rattle.translator_bytes.specs.WriteLaws.{Rest, rest-from, rest-as, rest-more, rest-done, room-front}
 use Rattle.translator.specs.Parts.{functionBytes, labelBytes}
-use Rattle.translator.specs.PartLaws.{few-functions}
+use Rattle.translator.specs.PartLaws.{functions-bound}
 use Prim.Native.Nat.{_+_, _-_, _≤_}
 use native.Mathlib.Omega.{arith}
 use borrow.Author.Needs.{needs}
@@ -26,7 +26,7 @@ in-loop-before-slice-known2 c = c .before .before .before .before
 element-copy-out-byte-number : tie.Need-element-copy-out-byte-number Inv-loop μ-loop
 element-copy-out-byte-number c =
     let entry = c .before .before in
-    omega (arith, few-functions (entry .pre .0 .0), entry .pre .1 .0)
+    omega (arith, functions-bound (entry .pre .0 .0), entry .pre .1 .0)
 
 byte-number-requires : tie.Need-byte-number-requires Inv-loop μ-loop
 byte-number-requires c κs = search needs
@@ -77,7 +77,7 @@ loop-again c =
     )
 
 same-length : tie.Need-same-length Inv-loop μ-loop
-same-length c = c .before .loop .inv .0 .long
+same-length c = c .before .loop .inv .0 .sameLength
 
 returns : tie.Need-returns Inv-loop μ-loop
 returns c =

@@ -1,8 +1,8 @@
 -- `translator::parts::put_functions` meets its contract.
 use Rattle.translator.specs.FileLaws.{functionsFrom, functions-first, functions-more, functions-none}
-use Rattle.translator.specs.WriteLaws.{Rest, rest-from, rest-as, rest-more, rest-done, room-front}
+use Rattle.translator_bytes.specs.WriteLaws.{Rest, rest-from, rest-as, rest-more, rest-done, room-front}
 use Rattle.translator.specs.Parts.{functionBytes, functionsBytes}
-use Rattle.translator.specs.PartLaws.{few-functions}
+use Rattle.translator.specs.PartLaws.{functions-bound}
 use Prim.Native.Nat.{_+_, _-_, _≤_}
 use native.Mathlib.Omega.{arith}
 use borrow.Author.Needs.{needs}
@@ -44,7 +44,7 @@ add-f : tie.Need-add-f Inv-loop μ-loop
 add-f c =
     let at-loop-test = in-loop-before-slice-known2 c in
     let entry = at-loop-test .before .before .before .before in
-    omega (arith, at-loop-test .loop-test .taken, entry .pre .0 .2, few-functions (entry .pre .0 .0))
+    omega (arith, at-loop-test .loop-test .taken, entry .pre .0 .2, functions-bound (entry .pre .0 .0))
 
 loop-less : tie.Need-loop-less Inv-loop μ-loop
 loop-less c =
@@ -65,7 +65,7 @@ loop-again c =
     )
 
 same-length : tie.Need-same-length Inv-loop μ-loop
-same-length c = c .before .loop .inv .0 .long
+same-length c = c .before .loop .inv .0 .sameLength
 
 returns : tie.Need-returns Inv-loop μ-loop
 returns c =

@@ -1,7 +1,7 @@
 -- `translator::parts::put_label` meets its contract.
 use Rattle.translator.specs.FileLaws.{label-placed, label-part}
-use Rattle.translator.specs.PartLaws.{few-functions, slot-low, own-low, others-low, counts-low}
-use Rattle.translator.specs.JumpLaws.{room-as, wrote-as}
+use Rattle.translator.specs.PartLaws.{functions-bound, index-bound, own-bound, others-bound, counts-bound}
+use Rattle.translator_bytes.specs.JumpLaws.{room-as, wrote-as}
 use mathlib.Core.Path.{refl}
 use native.Mathlib.Omega.{arith}
 use borrow.Author.Needs.{needs}
@@ -18,25 +18,25 @@ offset-number-before-by-label c = c .before .before .before
 abbrev entry-before-by-label2 : tie.After-by-label2 → tie.Start
 entry-before-by-label2 c = c .before .before .before .before .before .before .before .before
 
-mul-slot : tie.Need-mul-slot
-mul-slot c =
+mul-index : tie.Need-mul-index
+mul-index c =
     let entry = c .before .before in
-    omega (arith, slot-low (entry .pre .0 .0) (entry .args .f) (entry .pre .1 .0 .0) (entry .args .l) (entry .pre .1 .0 .1))
+    omega (arith, index-bound (entry .pre .0 .0) (entry .args .f) (entry .pre .1 .0 .0) (entry .args .l) (entry .pre .1 .0 .1))
 
-add-slot : tie.Need-add-slot
-add-slot c =
+add-index : tie.Need-add-index
+add-index c =
     let entry = c .before .before in
-    omega (arith, slot-low (entry .pre .0 .0) (entry .args .f) (entry .pre .1 .0 .0) (entry .args .l) (entry .pre .1 .0 .1))
+    omega (arith, index-bound (entry .pre .0 .0) (entry .args .f) (entry .pre .1 .0 .0) (entry .args .l) (entry .pre .1 .0 .1))
 
 mul-offset-number : tie.Need-mul-offset-number
 mul-offset-number c =
     let entry = c .before .before in
-    omega (arith, few-functions (entry .pre .0 .0), entry .pre .1 .0 .0)
+    omega (arith, functions-bound (entry .pre .0 .0), entry .pre .1 .0 .0)
 
 element-copy-out-offset-number : tie.Need-element-copy-out-offset-number
 element-copy-out-offset-number c =
     let entry = c .before .before in
-    omega (arith, few-functions (entry .pre .0 .0), entry .pre .1 .0 .0)
+    omega (arith, functions-bound (entry .pre .0 .0), entry .pre .1 .0 .0)
 
 offset-number-requires : tie.Need-offset-number-requires
 offset-number-requires c κs = search needs
@@ -44,20 +44,20 @@ offset-number-requires c κs = search needs
 element-copy-out-own : tie.Need-element-copy-out-own
 element-copy-out-own c =
     let entry = entry-before-offset-number c in
-    omega (arith, few-functions (entry .pre .0 .0), entry .pre .1 .0 .0)
+    omega (arith, functions-bound (entry .pre .0 .0), entry .pre .1 .0 .0)
 
 element-copy-out-others : tie.Need-element-copy-out-others
 element-copy-out-others c =
     let entry = c .before .before .before .before .before in
-    omega (arith, few-functions (entry .pre .0 .0), entry .pre .1 .0 .0)
+    omega (arith, functions-bound (entry .pre .0 .0), entry .pre .1 .0 .0)
 
 add-v : tie.Need-add-v
 add-v c =
     let entry = c .before .before .before .before .before .before in
     omega (
       arith,
-      own-low (entry .pre .0 .0) (entry .args .f) (entry .pre .1 .0 .0) (entry .args .l) (entry .pre .1 .0 .1) refl refl refl,
-      others-low (entry .pre .0 .0) (entry .args .f) (entry .pre .1 .0 .0) (entry .args .l) (entry .pre .1 .0 .1) refl refl refl,
+      own-bound (entry .pre .0 .0) (entry .args .f) (entry .pre .1 .0 .0) (entry .args .l) (entry .pre .1 .0 .1) refl refl refl,
+      others-bound (entry .pre .0 .0) (entry .args .f) (entry .pre .1 .0 .0) (entry .args .l) (entry .pre .1 .0 .1) refl refl refl,
     )
 
 by-label-requires : tie.Need-by-label-requires
@@ -69,12 +69,12 @@ by-label-requires-2 c κs = search needs
 mul-offset-number-2 : tie.Need-mul-offset-number-2
 mul-offset-number-2 c =
     let entry = entry-before-by-label2 c in
-    omega (arith, slot-low (entry .pre .0 .0) (entry .args .f) (entry .pre .1 .0 .0) (entry .args .l) (entry .pre .1 .0 .1))
+    omega (arith, index-bound (entry .pre .0 .0) (entry .args .f) (entry .pre .1 .0 .0) (entry .args .l) (entry .pre .1 .0 .1))
 
 element-copy-out-offset-number-2 : tie.Need-element-copy-out-offset-number-2
 element-copy-out-offset-number-2 c =
     let entry = entry-before-by-label2 c in
-    slot-low (entry .pre .0 .0) (entry .args .f) (entry .pre .1 .0 .0) (entry .args .l) (entry .pre .1 .0 .1)
+    index-bound (entry .pre .0 .0) (entry .args .f) (entry .pre .1 .0 .0) (entry .args .l) (entry .pre .1 .0 .1)
 
 offset-number-requires-2 : tie.Need-offset-number-requires-2
 offset-number-requires-2 c κs = search needs
@@ -82,7 +82,7 @@ offset-number-requires-2 c κs = search needs
 element-copy-out-h : tie.Need-element-copy-out-h
 element-copy-out-h c =
     let entry = c .before .before .before .before .before .before .before .before .before .before in
-    slot-low (entry .pre .0 .0) (entry .args .f) (entry .pre .1 .0 .0) (entry .args .l) (entry .pre .1 .0 .1)
+    index-bound (entry .pre .0 .0) (entry .args .f) (entry .pre .1 .0 .0) (entry .args .l) (entry .pre .1 .0 .1)
 
 put-part-requires : tie.Need-put-part-requires
 put-part-requires c κs =
@@ -91,7 +91,7 @@ put-part-requires c κs =
     let at-by-label = at-by-label2 .before in
     let at-offset-number = offset-number-before-by-label at-by-label in
     let entry = entry-before-offset-number at-offset-number in
-    let w = counts-low (entry .pre .0 .0) (entry .args .f) (entry .pre .1 .0 .0) (entry .args .l) (entry .pre .1 .0 .1) refl refl refl (at-by-label .by-label .ensures)
+    let w = counts-bound (entry .pre .0 .0) (entry .args .f) (entry .pre .1 .0 .0) (entry .args .l) (entry .pre .1 .0 .1) refl refl refl (at-by-label .by-label .ensures)
     (at-by-label2 .by-label2 .ensures) in (
       (
         label-placed (entry .pre .0 .0) (entry .args .f) (entry .pre .1 .0 .0) (entry .args .l) (entry .pre .1 .0 .1) refl refl refl (at-offset-number2 .offset-number2 .ensures .0)
@@ -123,8 +123,8 @@ pub put-label-spec : {M : Type 1} → statement M
 put-label-spec =
     tie.close
     (tie.spec
-    mul-slot
-    add-slot
+    mul-index
+    add-index
     mul-offset-number
     element-copy-out-offset-number
     offset-number-requires

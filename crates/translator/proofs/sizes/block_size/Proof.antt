@@ -7,7 +7,7 @@ use borrow.Author.Needs.{needs}
 use Rattle.translator.proofs.sizes.block_size.Statement.{statement}
 use Rattle.translator.proofs.sizes.block_size.Tie as tie
 use Rattle.procedure_layout.proofs.layout.after_of.Reads as after-of-reads
-use Rattle.procedure_layout.proofs.operation.operation_at.Reads as operation-at-reads
+use Rattle.procedure_operations.proofs.operation.operation_at.Reads as operation-at-reads
 
 abbrev Inv-loop : tie.InvT-loop
 Inv-loop file v h start at₀ n₀ at n = Counting file v h start at n

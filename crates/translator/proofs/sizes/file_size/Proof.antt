@@ -1,6 +1,6 @@
 -- `translator::sizes::file_size` meets its contract.
 use Rattle.translator.specs.FileLaws.{Functions, functions-start, functions-next, functions-end}
-use Rattle.translator.specs.PartLaws.{few-functions, count-is, inside}
+use Rattle.translator.specs.PartLaws.{functions-bound, count-is, inside}
 use Prim.Native.Nat.{_+_, _-_, _≤_}
 use native.Mathlib.Omega.{arith}
 use borrow.Author.Needs.{needs}
@@ -37,7 +37,7 @@ add-n : tie.Need-add-n Inv-loop μ-loop
 add-n c =
     let at-loop = c .before .before in
     let at-byte-number = at-loop .before in
-    omega (arith, at-loop .loop .inv .0 .few, c .function-size .ensures .1, c .before .loop-test .taken, at-byte-number .byte-number .ensures .1)
+    omega (arith, at-loop .loop .inv .0 .sizeBound, c .function-size .ensures .1, c .before .loop-test .taken, at-byte-number .byte-number .ensures .1)
 
 add-f : tie.Need-add-f Inv-loop μ-loop
 add-f c =

@@ -1,6 +1,6 @@
 -- `translator::sizes::function_size` meets its contract.
-use Rattle.translator.specs.FileLaws.{Blocks, blocks-start, blocks-next, blocks-end, label-inside, label-outside, labels-low}
-use Rattle.translator.specs.PartLaws.{few-functions}
+use Rattle.translator.specs.FileLaws.{Blocks, blocks-start, blocks-next, blocks-end, label-inside, label-outside, labels-bound}
+use Rattle.translator.specs.PartLaws.{functions-bound}
 use Prim.Native.Nat.{_+_, _-_, _≤_}
 use native.Mathlib.Omega.{arith}
 use borrow.Author.Needs.{needs}
@@ -18,7 +18,7 @@ abbrev entry-before-byte-number : tie.After-byte-number Inv-loop μ-loop → tie
 entry-before-byte-number c = c .before .before .before
 
 element-copy-out-byte-number : tie.Need-element-copy-out-byte-number Inv-loop μ-loop
-element-copy-out-byte-number c = omega (arith, few-functions (c .before .pre .0), c .before .pre .1)
+element-copy-out-byte-number c = omega (arith, functions-bound (c .before .pre .0), c .before .pre .1)
 
 byte-number-requires : tie.Need-byte-number-requires Inv-loop μ-loop
 byte-number-requires c κs = search needs
@@ -37,7 +37,7 @@ add-n : tie.Need-add-n Inv-loop μ-loop
 add-n c =
     let at-loop = c .before .before in
     let at-byte-number = at-loop .before in
-    omega (arith, at-loop .loop .inv .0 .few, c .label-size .ensures .few, c .before .loop-test .taken, at-byte-number .byte-number .ensures .1)
+    omega (arith, at-loop .loop .inv .0 .sizeBound, c .label-size .ensures .sizeBound, c .before .loop-test .taken, at-byte-number .byte-number .ensures .1)
 
 add-l : tie.Need-add-l Inv-loop μ-loop
 add-l c =
@@ -66,9 +66,9 @@ returns c =
           (arith, c .loop-test .left))),
       omega (
         arith,
-        at-loop .loop .inv .0 .few,
+        at-loop .loop .inv .0 .sizeBound,
         at-loop .loop .inv .1,
-        labels-low (entry .pre .0) (entry .args .f) (entry .pre .1) (at-byte-number .byte-number .ensures .0),
+        labels-bound (entry .pre .0) (entry .args .f) (entry .pre .1) (at-byte-number .byte-number .ensures .0),
       ),
     )
 

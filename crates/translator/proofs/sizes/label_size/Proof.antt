@@ -1,6 +1,6 @@
 -- `translator::sizes::label_size` meets its contract.
 use Rattle.translator.specs.FileLaws.{label-here, label-sized}
-use Rattle.translator.specs.PartLaws.{few-functions, slot-low, own-low, others-low}
+use Rattle.translator.specs.PartLaws.{functions-bound, index-bound, own-bound, others-bound}
 use mathlib.Core.Path.{refl, _∙_}
 use native.Mathlib.Omega.{arith}
 use borrow.Author.Needs.{needs}
@@ -11,31 +11,31 @@ use Rattle.translator.proofs.sizes.label_size.Tie as tie
 abbrev entry-before-byte-number : tie.After-byte-number → tie.Start
 entry-before-byte-number c = c .before .before .before .before .before
 
-mul-slot : tie.Need-mul-slot
-mul-slot c =
+mul-index : tie.Need-mul-index
+mul-index c =
     let entry = c .before in
-    omega (arith, slot-low (entry .pre .0) (entry .args .f) (entry .pre .1 .0) (entry .args .l) (entry .pre .1 .1))
+    omega (arith, index-bound (entry .pre .0) (entry .args .f) (entry .pre .1 .0) (entry .args .l) (entry .pre .1 .1))
 
-add-slot : tie.Need-add-slot
-add-slot c =
+add-index : tie.Need-add-index
+add-index c =
     let entry = c .before in
-    omega (arith, slot-low (entry .pre .0) (entry .args .f) (entry .pre .1 .0) (entry .args .l) (entry .pre .1 .1))
+    omega (arith, index-bound (entry .pre .0) (entry .args .f) (entry .pre .1 .0) (entry .args .l) (entry .pre .1 .1))
 
 element-copy-out-others : tie.Need-element-copy-out-others
-element-copy-out-others c = omega (arith, few-functions (c .before .pre .0), c .before .pre .1 .0)
+element-copy-out-others c = omega (arith, functions-bound (c .before .pre .0), c .before .pre .1 .0)
 
 element-copy-out-v : tie.Need-element-copy-out-v
 element-copy-out-v c =
     let entry = c .before .before in
-    omega (arith, few-functions (entry .pre .0), entry .pre .1 .0)
+    omega (arith, functions-bound (entry .pre .0), entry .pre .1 .0)
 
 add-v : tie.Need-add-v
 add-v c =
     let entry = c .before .before .before in
     omega (
       arith,
-      own-low (entry .pre .0) (entry .args .f) (entry .pre .1 .0) (entry .args .l) (entry .pre .1 .1) refl refl refl,
-      others-low (entry .pre .0) (entry .args .f) (entry .pre .1 .0) (entry .args .l) (entry .pre .1 .1) refl refl refl,
+      own-bound (entry .pre .0) (entry .args .f) (entry .pre .1 .0) (entry .args .l) (entry .pre .1 .1) refl refl refl,
+      others-bound (entry .pre .0) (entry .args .f) (entry .pre .1 .0) (entry .args .l) (entry .pre .1 .1) refl refl refl,
     )
 
 by-label-requires : tie.Need-by-label-requires
@@ -47,12 +47,12 @@ byte-number-requires c κs = search needs
 mul-offset-number : tie.Need-mul-offset-number
 mul-offset-number c =
     let entry = entry-before-byte-number c in
-    omega (arith, slot-low (entry .pre .0) (entry .args .f) (entry .pre .1 .0) (entry .args .l) (entry .pre .1 .1))
+    omega (arith, index-bound (entry .pre .0) (entry .args .f) (entry .pre .1 .0) (entry .args .l) (entry .pre .1 .1))
 
 element-copy-out-offset-number : tie.Need-element-copy-out-offset-number
 element-copy-out-offset-number c =
     let entry = entry-before-byte-number c in
-    slot-low (entry .pre .0) (entry .args .f) (entry .pre .1 .0) (entry .args .l) (entry .pre .1 .1)
+    index-bound (entry .pre .0) (entry .args .f) (entry .pre .1 .0) (entry .args .l) (entry .pre .1 .1)
 
 offset-number-requires : tie.Need-offset-number-requires
 offset-number-requires c κs = search needs
@@ -60,7 +60,7 @@ offset-number-requires c κs = search needs
 element-copy-out-h : tie.Need-element-copy-out-h
 element-copy-out-h c =
     let entry = c .before .before .before .before .before .before .before in
-    slot-low (entry .pre .0) (entry .args .f) (entry .pre .1 .0) (entry .args .l) (entry .pre .1 .1)
+    index-bound (entry .pre .0) (entry .args .f) (entry .pre .1 .0) (entry .args .l) (entry .pre .1 .1)
 
 block-size-requires : tie.Need-block-size-requires
 block-size-requires c κs =
@@ -88,8 +88,8 @@ pub label-size-spec : {M : Type 1} → statement M
 label-size-spec =
     tie.close
     (tie.spec
-    mul-slot
-    add-slot
+    mul-index
+    add-index
     element-copy-out-others
     element-copy-out-v
     add-v

@@ -1,6 +1,6 @@
 -- `translator::sizes::operation_size` meets its contract.
-use Rattle.translator.specs.Bytes.{operationSize}
-use Rattle.translator.specs.Ready.{Few}
+use Rattle.translator_bytes.specs.Bytes.{operationSize}
+use Rattle.translator.specs.Standing.{CountInTable}
 use mathlib.Core.Path.{sym, ap, _∙_, subst}
 use borrow.Author.Needs.{needs}
 use Rattle.translator.proofs.sizes.operation_size.Statement.{statement}
@@ -21,7 +21,7 @@ enum-known-x c = search needs
 call-size-requires : tie.Need-call-size-requires
 call-size-requires c κs =
     let entry = c .before .before .before in
-    (entry .pre .0, subst Few (c .before .x .given .1) (entry .pre .1))
+    (entry .pre .0, subst CountInTable (c .before .x .given .1) (entry .pre .1))
 
 enum-told-4 : tie.Need-enum-told-4
 enum-told-4 c = search needs

@@ -1,0 +1,143 @@
+-- `bench_step::step::caught_step` meets its contract.
+use native.Mathlib.Omega.{arith}
+use mathlib.Core.Path.{refl}
+use Rattle.bench_step.specs.MachineTablesLaws.{caught-below, caught-ready, caught-done, head-small, frame-safe}
+use borrow.Author.Needs.{needs}
+use Rattle.bench_step.proofs.step.caught_step.Statement.{statement}
+use Rattle.bench_step.proofs.step.caught_step.Tie as tie
+
+-- Ways back to earlier places that several answers take.
+abbrev entry-before-variables : tie.After-variables → tie.Start
+entry-before-variables c = c .before .before .before
+
+abbrev variables-before-byte-number : tie.After-byte-number → tie.After-variables
+variables-before-byte-number c = c .before .before .before .before
+
+sub-d : tie.Need-sub-d
+sub-d c = search needs
+
+head-at-requires : tie.Need-head-at-requires
+head-at-requires c κs =
+    let entry = c .before in
+    caught-ready (entry .pre .0) (entry .pre .1 .0) (entry .pre .1 .1 .0) (entry .pre .1 .1 .1 .1 .0) (entry .pre .1 .1 .1 .1 .1) (entry .pre .1 .1 .1 .1 .2)
+
+variables-requires : tie.Need-variables-requires
+variables-requires c κs =
+    let entry = c .before .before in
+    head-small (entry .pre .0) (entry .pre .1 .0)
+    (caught-below (entry .pre .0) (entry .pre .1 .0) (entry .pre .1 .1 .0) (entry .pre .1 .1 .1 .1 .0) (entry .pre .1 .1 .1 .1 .1) (entry .pre .1 .1 .1 .1 .2))
+    (c .head-at .ensures)
+
+mul-from : tie.Need-mul-from
+mul-from c =
+    let entry = entry-before-variables c in
+    let F = frame-safe (entry .pre .0) (entry .pre .1 .0)
+    (caught-below (entry .pre .0) (entry .pre .1 .0) (entry .pre .1 .1 .0) (entry .pre .1 .1 .1 .1 .0) (entry .pre .1 .1 .1 .1 .1) (entry .pre .1 .1 .1 .1 .2))
+    (c .before .head-at .ensures) (c .variables .ensures) in
+    omega (arith, F .depthBound)
+
+add-from : tie.Need-add-from
+add-from c =
+    let entry = entry-before-variables c in
+    let F = frame-safe (entry .pre .0) (entry .pre .1 .0)
+    (caught-below (entry .pre .0) (entry .pre .1 .0) (entry .pre .1 .1 .0) (entry .pre .1 .1 .1 .1 .0) (entry .pre .1 .1 .1 .1 .1) (entry .pre .1 .1 .1 .1 .2))
+    (c .before .head-at .ensures) (c .variables .ensures) in
+    omega (arith, F .depthBound)
+
+copy-requires : tie.Need-copy-requires
+copy-requires c κs =
+    let entry = c .before .before .before .before in
+    let F = frame-safe (entry .pre .0) (entry .pre .1 .0)
+    (caught-below (entry .pre .0) (entry .pre .1 .0) (entry .pre .1 .1 .0) (entry .pre .1 .1 .1 .1 .0) (entry .pre .1 .1 .1 .1 .1) (entry .pre .1 .1 .1 .1 .2))
+    (c .before .before .head-at .ensures) (c .before .variables .ensures) in
+    (F .there, omega (arith, F .variableBound, F .variableCount))
+
+mul-i : tie.Need-mul-i
+mul-i c =
+    let at-variables = c .before .before in
+    let at-head-at = at-variables .before in
+    let entry = at-head-at .before .before in
+    let F = frame-safe (entry .pre .0) (entry .pre .1 .0)
+    (caught-below (entry .pre .0) (entry .pre .1 .0) (entry .pre .1 .1 .0) (entry .pre .1 .1 .1 .1 .0) (entry .pre .1 .1 .1 .1 .1) (entry .pre .1 .1 .1 .1 .2))
+    (at-head-at .head-at .ensures) (at-variables .variables .ensures) in
+    omega (arith, F .table)
+
+add-i : tie.Need-add-i
+add-i c =
+    let at-variables = c .before .before in
+    let at-head-at = at-variables .before in
+    let entry = at-head-at .before .before in
+    let F = frame-safe (entry .pre .0) (entry .pre .1 .0)
+    (caught-below (entry .pre .0) (entry .pre .1 .0) (entry .pre .1 .1 .0) (entry .pre .1 .1 .1 .1 .0) (entry .pre .1 .1 .1 .1 .1) (entry .pre .1 .1 .1 .1 .2))
+    (at-head-at .head-at .ensures) (at-variables .variables .ensures) in
+    omega (arith, F .table)
+
+element-copy-out-byte-number : tie.Need-element-copy-out-byte-number
+element-copy-out-byte-number c =
+    let at-variables = c .before .before in
+    let at-head-at = at-variables .before in
+    let entry = at-head-at .before .before in
+    let F = frame-safe (entry .pre .0) (entry .pre .1 .0)
+    (caught-below (entry .pre .0) (entry .pre .1 .0) (entry .pre .1 .1 .0) (entry .pre .1 .1 .1 .1 .0) (entry .pre .1 .1 .1 .1 .1) (entry .pre .1 .1 .1 .1 .2))
+    (at-head-at .head-at .ensures) (at-variables .variables .ensures) in
+    F .table
+
+byte-number-requires : tie.Need-byte-number-requires
+byte-number-requires c κs = search needs
+
+mul-offset-number : tie.Need-mul-offset-number
+mul-offset-number c =
+    let at-variables = variables-before-byte-number c in
+    let at-head-at = at-variables .before in
+    let entry = at-head-at .before .before in
+    let F = frame-safe (entry .pre .0) (entry .pre .1 .0)
+    (caught-below (entry .pre .0) (entry .pre .1 .0) (entry .pre .1 .1 .0) (entry .pre .1 .1 .1 .1 .0) (entry .pre .1 .1 .1 .1 .1) (entry .pre .1 .1 .1 .1 .2))
+    (at-head-at .head-at .ensures) (at-variables .variables .ensures) in
+    omega (arith, F .table)
+
+element-copy-out-offset-number : tie.Need-element-copy-out-offset-number
+element-copy-out-offset-number c =
+    let at-variables = variables-before-byte-number c in
+    let at-head-at = at-variables .before in
+    let entry = at-head-at .before .before in
+    let F = frame-safe (entry .pre .0) (entry .pre .1 .0)
+    (caught-below (entry .pre .0) (entry .pre .1 .0) (entry .pre .1 .1 .0) (entry .pre .1 .1 .1 .1 .0) (entry .pre .1 .1 .1 .1 .1) (entry .pre .1 .1 .1 .1 .2))
+    (at-head-at .head-at .ensures) (at-variables .variables .ensures) in
+    F .table
+
+offset-number-requires : tie.Need-offset-number-requires
+offset-number-requires c κs = search needs
+
+add-extras : tie.Need-add-extras
+add-extras c = search needs
+
+returns : tie.Need-returns
+returns c =
+    let at-byte-number = c .before .before .before in
+    let at-copy = at-byte-number .before .before in
+    let at-variables = at-copy .before .before in
+    let at-head-at = at-variables .before in
+    let entry = at-head-at .before .before in
+    caught-done (entry .pre .0) (entry .pre .1 .0) (entry .pre .1 .1 .0) (entry .pre .1 .1 .1 .1 .0) (entry .pre .1 .1 .1 .1 .1) (entry .pre .1 .1 .1 .1 .2)
+    (at-head-at .head-at .ensures) (at-variables .variables .ensures) (at-copy .copy .ensures) (at-byte-number .byte-number .ensures .0) (c .before .offset-number .ensures .0)
+    refl
+
+pub caught-step-spec : {M : Type 1} → statement M
+caught-step-spec =
+    tie.close
+    (tie.spec
+    sub-d
+    head-at-requires
+    variables-requires
+    mul-from
+    add-from
+    copy-requires
+    mul-i
+    add-i
+    element-copy-out-byte-number
+    byte-number-requires
+    mul-offset-number
+    element-copy-out-offset-number
+    offset-number-requires
+    add-extras
+    returns)

@@ -1,0 +1,2 @@
+// One step of the bench machine.
+pub mod step;

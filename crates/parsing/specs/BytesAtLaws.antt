@@ -1,0 +1,116 @@
+-- What was read is what was written: the bytes from an offset on are the writing of what was read, and what is left.
+use Prim.Native.Nat.{ℕ, zero, suc, _+_, _*_, _≤_, _<_}
+use mathlib.Core.Path.{_≡_, refl, sym, ap, _∙_}
+use mathlib.Core.Bool.{Bool, true, false, cond}
+use mathlib.Core.List.{List, [], _∷_, _++_, append-assoc}
+use native.Mathlib.Omega.{arith}
+use native.Mathlib.Numerals.{add-one}
+use borrow.Author.Tests.{ltb-true, ltb-false, leb-true, eqb-true}
+use lib.Dec.{leb, ltb, eqb}
+use lib.ListN.{length, getD, take, drop, length-append}
+use lib.Seq.{drop-cons}
+use Rattle.parsing.specs.Parser.{refusal, read, refuse, Parser, joined}
+use Rattle.parsing.specs.Fields.{cut, byte, marked, version, ended}
+use Rattle.parsing.specs.ParserLaws.{impossible, ReadMany, none, one}
+
+-- The bytes w stand from `at` on, up to `next`.
+pub record BytesAt (s : List ℕ) (at next : ℕ) (w : List ℕ) : Type 0 where
+  pub stands : drop at s ≡ w ++ drop next s
+  pub past : next ≡ at + length w
+
+module _ (s : List ℕ) where
+  pub bytes-at-none : (at : ℕ) → BytesAt s at at []
+  bytes-at-none at = record { stands = refl; past = omega arith }
+
+  pub bytes-at-join : {at middle next : ℕ} {v w : List ℕ} → BytesAt s at middle v → BytesAt s middle next w → BytesAt s at next (v ++ w)
+  bytes-at-join {at} {middle} {next} {v} {w} a b =
+      record {
+        stands = a .stands ∙ ap (λ (l : List ℕ). v ++ l) (b .stands) ∙ sym (append-assoc v w (drop next s));
+        past = omega (arith, a .past, b .past, length-append v w);
+      }
+
+  pub bytes-at-byte : (at : ℕ) → at < length s → BytesAt s at (at + 1) (getD s at 0 ∷ [])
+  bytes-at-byte at h = record { stands = rw (add-one, drop-cons s at 0 h); past = refl }
+
+  -- One byte more in front.
+  pub bytes-at-cons : {at next : ℕ} {w : List ℕ} → at < length s → BytesAt s (at + 1) next w → BytesAt s at next (getD s at 0 ∷ w)
+  bytes-at-cons {at} h a = bytes-at-join (bytes-at-byte at h) a
+
+  pub bytes-at-marked : (ms : List ℕ) (at : ℕ) {u : Unit {0}} {next : ℕ} → marked ms s at ≡ read u next → BytesAt s at next ms
+  bytes-at-marked [] at {u} {next} e = let p : at ≡ next = cc in rw (← p) (bytes-at-none at)
+  bytes-at-marked (m ∷ ms) at {u} {next} e =
+      go (ltb at (length s)) (eqb (getD s at 0) m) refl refl (λ w. bytes-at-marked ms (at + 1) w) e
+    where
+      go : (t v : Bool) → ltb at (length s) ≡ t → eqb (getD s at 0) m ≡ v
+          → (marked ms s (at + 1) ≡ read u next → BytesAt s (at + 1) next ms)
+          → cond t (cond v (marked ms s (at + 1)) (refuse (refusal 1 at))) (refuse (cut s)) ≡ read u next → BytesAt s at next (m ∷ ms)
+      go true true i j f w =
+          let q = eqb-true (getD s at 0) m j in
+          rw (← q) (bytes-at-cons (ltb-true at (length s) i) (f w))
+      go true false i j f w = impossible (cc)
+      go false v i j f w = impossible (cc)
+
+  pub bytes-at-version : (at : ℕ) {u : Unit {0}} {next : ℕ} → version s at ≡ read u next → BytesAt s at next (1 ∷ 0 ∷ [])
+  unfolding version
+  bytes-at-version at {u} {next} e = go (leb (at + 2) (length s)) (eqb (getD s at 0 + 256 * getD s (at + 1) 0) 1) refl refl e
+    where
+      go : (t v : Bool) → leb (at + 2) (length s) ≡ t → eqb (getD s at 0 + 256 * getD s (at + 1) 0) 1 ≡ v
+          → cond t (cond v (read tt (at + 2)) (refuse (refusal 2 at))) (refuse (cut s)) ≡ read u next → BytesAt s at next (1 ∷ 0 ∷ [])
+      go true true i j w =
+          let h = leb-true (at + 2) (length s) i in
+          let n = eqb-true (getD s at 0 + 256 * getD s (at + 1) 0) 1 j in
+          let a : getD s at 0 ≡ 1 = omega arith in
+          let b : getD s (at + 1) 0 ≡ 0 = omega arith in
+          let q : at + 2 ≡ next = cc in
+          let p : at + 1 + 1 ≡ next = omega arith in
+          go₂ a b p (bytes-at-join (bytes-at-byte at (omega arith)) (bytes-at-byte (at + 1) (omega arith)))
+        where
+          go₂ : {x y m : ℕ} → x ≡ 1 → y ≡ 0 → m ≡ next → BytesAt s at m (x ∷ y ∷ []) → BytesAt s at next (1 ∷ 0 ∷ [])
+          go₂ a b p r = rw (a, b, p) at r
+      go true false i j w = impossible (cc)
+      go false v i j w = impossible (cc)
+
+  pub read-ended : (at : ℕ) {u : Unit {0}} {next : ℕ} → ended s at ≡ read u next → (length s ≤ at) × (next ≡ at)
+  unfolding ended
+  read-ended at {u} {next} e = go (ltb at (length s)) refl e
+    where
+      go : (t : Bool) → ltb at (length s) ≡ t → cond t (refuse (refusal 4 at)) (read tt at) ≡ read u next → (length s ≤ at) × (next ≡ at)
+      go true i w = impossible (cc)
+      go false i w = (ltb-false at (length s) i, cc)
+
+-- The bytes from an offset on, counted from i.
+abbrev pub span : List ℕ → ℕ → ℕ → ℕ → List ℕ
+span s at i zero = []
+span s at i (suc k) = getD s (at + i) 0 ∷ span s at (suc i) k
+
+module _ (s : List ℕ) (at : ℕ) where
+  pub bytes-at-span : (i k : ℕ) → at + (i + k) ≤ length s → BytesAt s (at + i) (at + (i + k)) (span s at i k)
+  bytes-at-span i zero h = let p : at + (i + 0) ≡ at + i = omega arith in rw p (bytes-at-none s (at + i))
+  bytes-at-span i (suc k) h =
+      let p : at + i + 1 ≡ at + suc i = omega arith in
+      let q : at + (i + suc k) ≡ at + (suc i + k) = omega arith in
+      bytes-at-cons s (omega arith) (rw (p, q) (bytes-at-span (suc i) k (omega arith)))
+
+-- Several parts, of which each that was read is what was written.
+module _ {A : Type 0} (p : Parser A) (w : A → List ℕ) (s : List ℕ)
+    (wrote : (at : ℕ) (a : A) (next : ℕ) → p s at ≡ read a next → BytesAt s at next (w a)) where
+  pub bytes-at-many : {at next : ℕ} {as′ : List A} → ReadMany p s at as′ next → BytesAt s at next (joined w as′)
+  bytes-at-many (none {at}) = bytes-at-none s at
+  bytes-at-many (one e r) = bytes-at-join s (wrote _ _ _ e) (bytes-at-many r)
+
+  -- Where each part stands.
+  pub many-at : {at next : ℕ} {as′ : List A} (d : A) → ReadMany p s at as′ next → (i : ℕ) → i < length as′
+      → p s (at + length (joined w (take i as′))) ≡ read (getD as′ i d) (at + length (joined w (take (suc i) as′)))
+  many-at d (none) i h = absurd (omega arith)
+  many-at d (one {at} {middle} {next} {a} {more} e r) zero h =
+      let x = wrote at a middle e .past in
+      let y : at + 0 ≡ at = omega arith in
+      let z : at + length (w a ++ []) ≡ middle = omega (arith, length-append (w a) []) in
+      rw (y, z) e
+  many-at d (one {at} {middle} {next} {a} {more} e r) (suc i) h =
+      let x = wrote at a middle e .past in
+      let y : at + length (w a ++ joined w (take i more)) ≡ middle + length (joined w (take i more)) =
+      omega (arith, length-append (w a) (joined w (take i more))) in
+      let z : at + length (w a ++ joined w (take (suc i) more)) ≡ middle + length (joined w (take (suc i) more)) =
+      omega (arith, length-append (w a) (joined w (take (suc i) more))) in
+      rw (y, z) (many-at d r i (omega arith))

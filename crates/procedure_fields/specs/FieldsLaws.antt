@@ -1,0 +1,113 @@
+-- What stands in the file where an operation has a number: the laws of the functions that read its fields.
+use Prim.Native.Nat.{ℕ, _+_, _≤_, _<_}
+use native.Mathlib.Omega.{arith}
+use mathlib.Core.Path.{_≡_, refl, subst}
+use mathlib.Core.Bool.{cond}
+use mathlib.Core.List.{List}
+use lib.Dec.{eqb}
+use lib.ListN.{length, getD}
+use Rattle.parsing.specs.Fields.{valueAt}
+use Rattle.procedure_operations.specs.declared.operation.Operation.{Operation}
+use Rattle.procedure_operations.specs.declared.operation.Operation.the-variants.{Constant, Copy, Difference, Call, Goto, Return, Branch, Raise, Refused}
+use Rattle.procedure_operations.specs.Operation.{operationAt}
+use Rattle.procedure_operations.specs.OperationLaws.{op-constant, op-copy, op-difference, op-call, op-goto, op-return, op-branch, op-raise}
+use Rattle.procedure_operations.specs.ViewLaws.{View, isConstant, isCopy, isDifference, isCall, isGoto, isReturn, isBranch, isRaise, isRefused, view}
+use Rattle.procedure_fields.specs.Number.{numberOf}
+
+-- How many bytes an operation with this number takes.
+abbrev width : List ℕ → ℕ → ℕ → ℕ
+width s at k =
+    cond (eqb k 1) 6
+    (cond (eqb k 2) 3
+    (cond (eqb k 3) 4
+    (cond (eqb k 4) (4 + getD s (at + 3) 0)
+    (cond (eqb k 5) 2
+    (cond (eqb k 6) 2
+    (cond (eqb k 7) 5 1))))))
+
+record Written (s : List ℕ) (at k : ℕ) : Type 0 where
+  number : getD s at 0 ≡ k
+  room : at + width s at k ≤ length s
+
+module _ (s : List ℕ) (at : ℕ) where
+  by-view : {o : Operation} → View s at o → 1 ≤ numberOf o → Written s at (numberOf o)
+  unfolding numberOf
+  by-view (isConstant e h) p = record { number = e; room = h }
+  by-view (isCopy e h) p = record { number = e; room = h }
+  by-view (isDifference e h) p = record { number = e; room = h }
+  by-view (isCall e h) p = record { number = e; room = omega (arith, h) }
+  by-view (isGoto e h) p = record { number = e; room = h }
+  by-view (isReturn e h) p = record { number = e; room = h }
+  by-view (isBranch e h) p = record { number = e; room = h }
+  by-view (isRaise e h) p = record { number = e; room = h }
+  by-view (isRefused r) p = absurd (omega (arith, p))
+
+  by-room : {o : Operation} → View s at o → 1 ≤ numberOf o → at < length s
+  unfolding numberOf
+  by-room (isConstant e k) p = omega (arith, k)
+  by-room (isCopy e k) p = omega (arith, k)
+  by-room (isDifference e k) p = omega (arith, k)
+  by-room (isCall e k) p = omega (arith, k)
+  by-room (isGoto e k) p = omega (arith, k)
+  by-room (isReturn e k) p = omega (arith, k)
+  by-room (isBranch e k) p = omega (arith, k)
+  by-room (isRaise e k) p = omega (arith, k)
+  by-room (isRefused r) p = absurd (omega (arith, p))
+
+  written : (k : ℕ) → numberOf (operationAt s at) ≡ k → 1 ≤ k → Written s at k
+  written k e h = subst (Written s at) e (by-view (view s at) (rw e h))
+
+  -- A byte stands there, and it is the number.
+  pub number-read : 1 ≤ numberOf (operationAt s at) → getD s at 0 ≡ numberOf (operationAt s at)
+  number-read h = written (numberOf (operationAt s at)) refl h .number
+
+  pub number-room : 1 ≤ numberOf (operationAt s at) → at < length s
+  number-room h = by-room (view s at) h
+
+  pub constant-room : numberOf (operationAt s at) ≡ 1 → at + 6 ≤ length s
+  constant-room e = written 1 e (omega arith) .room
+
+  pub constant-fields : numberOf (operationAt s at) ≡ 1 → operationAt s at ≡ Constant (getD s (at + 1) 0) (valueAt s (at + 2)) (at + 6)
+  constant-fields e = op-constant s at (written 1 e (omega arith) .number) (constant-room e)
+
+  pub copy-room : numberOf (operationAt s at) ≡ 2 → at + 3 ≤ length s
+  copy-room e = written 2 e (omega arith) .room
+
+  pub copy-fields : numberOf (operationAt s at) ≡ 2 → operationAt s at ≡ Copy (getD s (at + 1) 0) (getD s (at + 2) 0) (at + 3)
+  copy-fields e = op-copy s at (written 2 e (omega arith) .number) (copy-room e)
+
+  pub difference-room : numberOf (operationAt s at) ≡ 3 → at + 4 ≤ length s
+  difference-room e = written 3 e (omega arith) .room
+
+  pub difference-fields : numberOf (operationAt s at) ≡ 3 → operationAt s at ≡ Difference (getD s (at + 1) 0) (getD s (at + 2) 0) (getD s (at + 3) 0) (at + 4)
+  difference-fields e = op-difference s at (written 3 e (omega arith) .number) (difference-room e)
+
+  pub call-room : numberOf (operationAt s at) ≡ 4 → at + 4 + getD s (at + 3) 0 ≤ length s
+  call-room e = omega (arith, written 4 e (omega arith) .room)
+
+  pub call-fields : numberOf (operationAt s at) ≡ 4 → operationAt s at ≡ Call (getD s (at + 1) 0) (getD s (at + 2) 0) (getD s (at + 3) 0) (at + 4 + getD s (at + 3) 0)
+  call-fields e = op-call s at (written 4 e (omega arith) .number) (call-room e)
+
+  pub goto-room : numberOf (operationAt s at) ≡ 5 → at + 2 ≤ length s
+  goto-room e = written 5 e (omega arith) .room
+
+  pub goto-fields : numberOf (operationAt s at) ≡ 5 → operationAt s at ≡ Goto (getD s (at + 1) 0) (at + 2)
+  goto-fields e = op-goto s at (written 5 e (omega arith) .number) (goto-room e)
+
+  pub return-room : numberOf (operationAt s at) ≡ 6 → at + 2 ≤ length s
+  return-room e = written 6 e (omega arith) .room
+
+  pub return-fields : numberOf (operationAt s at) ≡ 6 → operationAt s at ≡ Return (getD s (at + 1) 0) (at + 2)
+  return-fields e = op-return s at (written 6 e (omega arith) .number) (return-room e)
+
+  pub branch-room : numberOf (operationAt s at) ≡ 7 → at + 5 ≤ length s
+  branch-room e = written 7 e (omega arith) .room
+
+  pub branch-fields : numberOf (operationAt s at) ≡ 7 → operationAt s at ≡ Branch (getD s (at + 1) 0) (getD s (at + 2) 0) (getD s (at + 3) 0) (getD s (at + 4) 0) (at + 5)
+  branch-fields e = op-branch s at (written 7 e (omega arith) .number) (branch-room e)
+
+  pub raise-room : numberOf (operationAt s at) ≡ 8 → at + 1 ≤ length s
+  raise-room e = written 8 e (omega arith) .room
+
+  pub raise-fields : numberOf (operationAt s at) ≡ 8 → operationAt s at ≡ Raise (at + 1)
+  raise-fields e = op-raise s at (written 8 e (omega arith) .number) (raise-room e)

@@ -1,0 +1,3 @@
+-- Definitions: Number. Laws: FieldsLaws.
+pub mod Number
+pub mod FieldsLaws

@@ -1,0 +1,16 @@
+-- The number of an operation, by its form (document 01, 'The procedure file').
+use Prim.Native.Nat.{ℕ}
+use Rattle.procedure_operations.specs.declared.operation.Operation.{Operation}
+use Rattle.procedure_operations.specs.declared.operation.Operation.the-variants.{Constant, Copy, Difference, Call, Goto, Return, Branch, Raise, Refused}
+
+-- 0 where none stands.
+unfoldable pub numberOf : Operation → ℕ
+numberOf (Constant x i n) = 1
+numberOf (Copy x y n) = 2
+numberOf (Difference x y z n) = 3
+numberOf (Call x g k n) = 4
+numberOf (Goto l n) = 5
+numberOf (Return x n) = 6
+numberOf (Branch y z l m n) = 7
+numberOf (Raise n) = 8
+numberOf (Refused r) = 0

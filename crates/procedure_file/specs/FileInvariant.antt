@@ -1,0 +1,60 @@
+-- What upper crates may rest on: the facts of an accepted file. Their proof is in FactsLaws.
+use Prim.Native.Nat.{ℕ, _+_, _≤_, _<_}
+use mathlib.Core.Path.{_≡_}
+use mathlib.Core.List.{List, _++_}
+use mathlib.Core.Option.{some}
+use lib.ListN.{length, getD, drop, getElem?}
+use Rattle.parsing.specs.declared.Refusal.{Refusal}
+use Rattle.semantics.specs.Program.{Function, variables, functionOf}
+use Rattle.semantics.specs.Bench.{labelledAt}
+use Rattle.semantics.specs.WellFormed.{IsLabel, WellFormed, WellFormedBlock}
+use Rattle.procedure_operations.specs.declared.operation.Operation.the-variants.{Call, Refused}
+use Rattle.procedure_layout.specs.declared.layout.After.the-variants.{Onward}
+use Rattle.procedure_operations.specs.Operation.{operationAt}
+use Rattle.procedure_layout.specs.Layout.{argumentsAt}
+use Rattle.procedure_names.specs.Writing.{blockBytes, writing, ValuesFit}
+use Rattle.procedure_file.specs.Check.{programOf}
+use Rattle.procedure_layout.specs.Rest.{restFrom, restAt}
+use Rattle.procedure_layout.specs.After.{afterOf}
+use Rattle.procedure_file.specs.Places.{startOf, blockOf, handlerOf}
+
+-- An operation of function f stands at an offset: the bytes from there on are the writing of the rest of a block, which is well-formed.
+pub record Stands (s : List ℕ) (f at : ℕ) : Type 0 where
+  pub there : f < length (programOf s)
+  pub past : ℕ
+  pub written : drop at s ≡ blockBytes (restAt s at) ++ drop past s
+  pub values : ValuesFit (restAt s at)
+  pub formed : WellFormedBlock (programOf s) (variables (functionOf (programOf s) f)) (length (functionOf (programOf s) f .blocks)) (restAt s at)
+
+-- The ranges of a function's counts.
+pub record Counts (F : Function) : Type 0 where
+  pub params : F .params ≤ 8
+  pub locals : F .locals ≤ 24
+  pub blocks : length (F .blocks) ≤ 63
+
+pub record FileInvariant (s : List ℕ) : Type 0 where
+  -- The program of the file.
+  pub written : s ≡ writing (programOf s)
+  pub wellFormed : WellFormed (programOf s)
+  pub least : 1 ≤ length (programOf s)
+  pub most : length (programOf s) ≤ 32
+  pub counts : (f : ℕ) → f < length (programOf s) → Counts (functionOf (programOf s) f)
+  pub fileBound : length s ≤ 32768
+  pub function : (f : ℕ) → f < length (programOf s) → getElem? (programOf s) f ≡ some (functionOf (programOf s) f)
+  -- Where its blocks stand: label 0 is the entry block.
+  pub start : (f l : ℕ) → f < length (programOf s) → l ≤ length (functionOf (programOf s) f .blocks) → Stands s f (startOf (programOf s) f l)
+  pub block : (f l : ℕ) → f < length (programOf s) → l ≤ length (functionOf (programOf s) f .blocks)
+      → restAt s (startOf (programOf s) f l) ≡ blockOf (functionOf (programOf s) f) l
+  pub labelled : (f l : ℕ) → IsLabel (length (functionOf (programOf s) f .blocks)) l
+      → labelledAt (functionOf (programOf s) f .blocks) l
+      ≡ some (record { handler = handlerOf (functionOf (programOf s) f) l; block = blockOf (functionOf (programOf s) f) l })
+  -- The operation at an offset where one stands.
+  pub inside : (f at : ℕ) → Stands s f at → at < length s
+  pub operation : (f at : ℕ) (r : Refusal) → Stands s f at → operationAt s at ≡ Refused r → ⊥
+  pub next : (f at m : ℕ) → Stands s f at → afterOf (operationAt s at) ≡ Onward m → Stands s f m
+  pub forward : (f at m : ℕ) → Stands s f at → afterOf (operationAt s at) ≡ Onward m → (at < m) × (m ≤ length s)
+  -- The rest of a block, by cases on the operation.
+  pub rest : (at : ℕ) → restAt s at ≡ restFrom s at (operationAt s at) (restAt s)
+  -- The arguments of a call.
+  pub called : (at x g n m : ℕ) → operationAt s at ≡ Call x g n m → length (argumentsAt s at n) ≡ n
+  pub argument : (at x g n m i : ℕ) → operationAt s at ≡ Call x g n m → i < n → getElem? (argumentsAt s at n) i ≡ some (getD s (at + 4 + i) 0)

@@ -1,3 +1,0 @@
--- Definitions: Form. Laws: FormLaws.
-pub mod Form
-pub mod FormLaws

@@ -1,2 +1,0 @@
-// The operation that stands at an offset of a procedure file, by its form: for a machine, which stands at operations alone.
-pub mod form;

@@ -1,0 +1,2 @@
+// The layout of translated files (`SPC`): the refusals 1 to 6 and 12, and where names are judged 9, 10, 11 and 13.
+pub mod layout;

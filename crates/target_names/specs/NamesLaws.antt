@@ -1,0 +1,67 @@
+-- Laws of the names in a node, as the functions that judge them meet them.
+use Prim.Native.Nat.{ℕ, zero, suc, _+_, _-_, _≤_, _<_}
+use mathlib.Core.Path.{_≡_, refl}
+use mathlib.Core.List.{List}
+use native.Mathlib.Omega.{arith}
+use native.Mathlib.Numerals.{add-one}
+use borrow.Author.Tests.{eq-eqb, ne-eqb}
+use lib.ListN.{length, getD}
+use Rattle.parsing.specs.declared.Refusal.{Refusal}
+use Rattle.parsing.specs.declared.Checked.{Checked}
+use Rattle.parsing.specs.declared.Checked.the-variants.{Accepted, Refused}
+use Rattle.parsing.specs.Parser.{refusal}
+use Rattle.target_tags.specs.declared.tag.Tag.{Tag}
+use Rattle.target_tags.specs.declared.tag.Tag.the-variants.{Jump}
+use Rattle.target_tags.specs.Tag.{tagAt}
+use Rattle.target_tags.specs.ViewLaws.{View, isConstant, isCopy, isDifference, isJump, isResume, isHandle, isBranch, isContinuation, isBoth, isRefused, seen}
+use Rattle.target_names.specs.Names.{_andAlso_, reads, arity, values, bound, entryKinds}
+
+pub refused-first : {c : Checked} (d : Checked) (r : Refusal) → c ≡ Refused r → Refused r ≡ _andAlso_ c d
+refused-first d r e = rw e
+
+module _ (ps : List ℕ) (place g n m : ℕ) (is : m ≡ getD ps g 0) where
+  pub arity-right : n ≡ m → Accepted ≡ arity ps place g n
+  unfolding arity
+  arity-right e = rw (← is, eq-eqb n m e)
+
+  pub arity-wrong : (n ≡ m → ⊥) → Refused (refusal 10 place) ≡ arity ps place g n
+  unfolding arity
+  arity-wrong e = rw (← is, ne-eqb n m e)
+
+-- The first of several values, and the others.
+module _ (ks s : List ℕ) (at x : ℕ) (is : x ≡ getD s at 0) where
+  pub values-stop : (n : ℕ) (r : Refusal) → 0 < n → reads ks 1 at x ≡ Refused r → Refused r ≡ values ks s at n
+  values-stop zero r h e = absurd (omega arith)
+  values-stop (suc n) r h e = rw (← is, e)
+
+  pub values-on : (n : ℕ) → 0 < n → reads ks 1 at x ≡ Accepted → values ks s (at + 1) (n - 1) ≡ values ks s at n
+  values-on zero h e = absurd (omega arith)
+  values-on (suc n) h e =
+      let p : suc n - 1 ≡ n = omega arith in
+      rw (← is, e, p)
+
+pub values-none : (ks s : List ℕ) (at n : ℕ) → n ≤ 0 → Accepted ≡ values ks s at n
+values-none ks s at zero h = refl
+values-none ks s at (suc n) h = absurd (omega arith)
+
+pub also : {a b c d : Checked} → a ≡ c → b ≡ d → _andAlso_ a b ≡ _andAlso_ c d
+also p q = rw (p, q)
+
+pub entry-more : (n : ℕ) (ks new : List ℕ) → ks ≡ entryKinds n → new ≡ bound ks (2 + n) 1 → new ≡ entryKinds (n + 1)
+unfolding entryKinds
+entry-more n ks new e f = rw (f, e, add-one n)
+
+pub jump-fits : (s : List ℕ) (at g k h n next : ℕ) (t : Tag) → t ≡ tagAt s at → t ≡ Jump g k h n next → at + 6 + n ≤ length s
+jump-fits s at g k h n next t is e = go (seen s at t is) e
+  where
+    go : {u : Tag} → View s at u → u ≡ Jump g k h n next → at + 6 + n ≤ length s
+    go (isConstant e h) w = let o : _≡_ {A = ℕ} 0 1 = cc in absurd (omega arith)
+    go (isCopy e h) w = let o : _≡_ {A = ℕ} 0 1 = cc in absurd (omega arith)
+    go (isDifference e h) w = let o : _≡_ {A = ℕ} 0 1 = cc in absurd (omega arith)
+    go (isJump e h) w = let q : getD s (at + 5) 0 ≡ n = cc in omega arith
+    go (isResume e h) w = let o : _≡_ {A = ℕ} 0 1 = cc in absurd (omega arith)
+    go (isHandle e h) w = let o : _≡_ {A = ℕ} 0 1 = cc in absurd (omega arith)
+    go (isBranch e h) w = let o : _≡_ {A = ℕ} 0 1 = cc in absurd (omega arith)
+    go (isContinuation e h) w = let o : _≡_ {A = ℕ} 0 1 = cc in absurd (omega arith)
+    go (isBoth e h) w = let o : _≡_ {A = ℕ} 0 1 = cc in absurd (omega arith)
+    go (isRefused r) w = let o : _≡_ {A = ℕ} 0 1 = cc in absurd (omega arith)

@@ -1,0 +1,75 @@
+-- `translator_bytes::jumps::put_plain_call` meets its contract.
+use Rattle.translator_bytes.specs.JumpLaws.{plain-room, plain-pair-room, plain-jump-room, plain-wrote}
+use native.Mathlib.Omega.{arith}
+use lib.ListN.{take, drop}
+use borrow.Author.Needs.{needs}
+use Rattle.translator_bytes.proofs.jumps.put_plain_call.Statement.{statement}
+use Rattle.translator_bytes.proofs.jumps.put_plain_call.Tie as tie
+
+-- Ways back to earlier places that several answers take.
+abbrev entry-before-jump-size : tie.After-jump-size → tie.Start
+entry-before-jump-size c = c .before .before .before
+
+abbrev put-three-before-put-pair : tie.After-put-pair → tie.After-put-three
+put-three-before-put-pair c = c .before .before .before .before
+
+add-k : tie.Need-add-k
+add-k c = search needs
+
+add-target : tie.Need-add-target
+add-target c = search needs
+
+jump-size-requires : tie.Need-jump-size-requires
+jump-size-requires c κs = search needs
+
+put-three-requires : tie.Need-put-three-requires
+put-three-requires c κs =
+    let entry = c .before .before .before .before in
+    plain-room (entry .args .v) (entry .args .x) (entry .args .g) (entry .args .n) (take (entry .args .n) (drop (entry .args .from) (entry .args .file .now)))
+    (c .before .jump-size .ensures) (entry .pre .1)
+
+put-pair-requires : tie.Need-put-pair-requires
+put-pair-requires c κs =
+    let at-put-three = c .before .before .before in
+    let at-jump-size = at-put-three .before .before in
+    let entry = entry-before-jump-size at-jump-size in (
+      omega (arith, at-jump-size .jump-size .ensures, entry .pre .0 .2),
+      plain-pair-room (entry .args .v) (entry .args .x) (entry .args .g) (entry .args .n) (take (entry .args .n)
+          (drop (entry .args .from) (entry .args .file .now))) (at-jump-size .jump-size .ensures) (entry .pre .1) (at-put-three .put-three .ensures),
+    )
+
+put-call-jump-requires : tie.Need-put-call-jump-requires
+put-call-jump-requires c κs =
+    let at-put-pair = c .before .before .before in
+    let at-put-three = put-three-before-put-pair at-put-pair in
+    let at-jump-size = at-put-three .before .before in
+    let entry = entry-before-jump-size at-jump-size in (
+      (entry .pre .0 .3, entry .pre .0 .4),
+      plain-jump-room (entry .args .v) (entry .args .x) (entry .args .g) (entry .args .n) (take (entry .args .n) (drop (entry .args .from)
+          (entry .args .file .now))) (at-jump-size .jump-size .ensures) (entry .pre .1) (at-put-three .put-three .ensures) (at-put-pair .put-pair .ensures),
+    )
+
+same-length : tie.Need-same-length
+same-length c = search needs
+
+returns : tie.Need-returns
+returns c =
+    let at-put-pair = c .before .before .before .before .before .before in
+    let at-put-three = put-three-before-put-pair at-put-pair in
+    let at-jump-size = at-put-three .before .before in
+    let entry = entry-before-jump-size at-jump-size in
+    plain-wrote (entry .args .v) (entry .args .x) (entry .args .g) (entry .args .n) (take (entry .args .n) (drop (entry .args .from) (entry .args .file .now)))
+    (at-jump-size .jump-size .ensures) (entry .pre .1) (at-put-three .put-three .ensures) (at-put-pair .put-pair .ensures) (c .before .before .put-call-jump .ensures)
+
+pub put-plain-call-spec : {M : Type 1} → statement M
+put-plain-call-spec =
+    tie.close
+    (tie.spec
+    add-k
+    add-target
+    jump-size-requires
+    put-three-requires
+    put-pair-requires
+    put-call-jump-requires
+    same-length
+    returns)

@@ -1,0 +1,6 @@
+-- The bytes of a translation. Definitions: Bytes (what operations become), Writes (what writers are asked and promise).
+pub mod Bytes
+pub mod Writes
+-- Laws.
+pub mod WriteLaws
+pub mod JumpLaws

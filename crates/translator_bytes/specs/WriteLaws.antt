@@ -1,0 +1,131 @@
+-- Writes, one behind the other.
+use Prim.Native.Nat.{ℕ, zero, suc, _+_, _-_, _≤_, _<_}
+use native.Mathlib.Omega.{arith}
+use native.Mathlib.Nat.{add-zero}
+use mathlib.Core.Path.{_≡_, refl, sym, ap, _∙_, subst}
+use mathlib.Core.List.{List, [], _∷_, _++_, map}
+use lib.ListN.{length, getD, take, drop, set, length-append}
+use lib.Seq.{drop-cons}
+use Rattle.memory.specs.Lay.{lay}
+use Rattle.memory.specs.LayLaws.{length-lay, lay-lay, lay-nil, lay-one, lay-two, lay-three, lay-four}
+use Rattle.semantics.specs.Translation.{slotOf, slotsFrom}
+use Rattle.translator_bytes.specs.Writes.{Room, Wrote}
+use Rattle.translator_bytes.specs.Bytes.{zeros}
+
+pub wrote-length : {o : ℕ} {w d : List ℕ} {r : ℕ} {d′ : List ℕ} → Room o w d → Wrote o w d r d′ → length d′ ≡ length d
+wrote-length {o} {w} {d} R W = ap length (W .laid) ∙ length-lay o w d (R .fits)
+
+-- Two parts.
+module _ (a b : List ℕ) {o : ℕ} {d : List ℕ} (R : Room o (a ++ b) d) where
+  pub room-front : Room o a d
+  room-front =
+      let e : length (a ++ b) ≡ length a + length b = length-append a b in
+      let f : o + length (a ++ b) ≤ length d = R .fits in
+      let m : o + length (a ++ b) ≤ 65535 = R .small in
+      record { fits = omega arith; small = omega arith }
+
+  pub room-back : {r : ℕ} {d′ : List ℕ} → Wrote o a d r d′ → Room r b d′
+  room-back {r} {d′} W =
+      let e : length (a ++ b) ≡ length a + length b = length-append a b in
+      let f : o + length (a ++ b) ≤ length d = R .fits in
+      let m : o + length (a ++ b) ≤ 65535 = R .small in
+      let n : r ≡ o + length a = W .next in
+      let l : length d′ ≡ length d = wrote-length room-front W in
+      record { fits = omega arith; small = omega arith }
+
+  pub wrote-both : {r r₂ : ℕ} {d₁ d₂ : List ℕ} → Wrote o a d r d₁ → Wrote r b d₁ r₂ d₂ → Wrote o (a ++ b) d r₂ d₂
+  wrote-both {r} {r₂} {d₁} {d₂} W X =
+      let e : length (a ++ b) ≡ length a + length b = length-append a b in
+      let n : r ≡ o + length a = W .next in
+      let m : r₂ ≡ r + length b = X .next in
+      record {
+        next = omega arith;
+        laid = X .laid ∙ (ap (λ (k : ℕ). lay k b d₁) n ∙ (ap (λ (x : List ℕ). lay (o + length a) b x) (W .laid) ∙ lay-lay o a b d (room-front .fits)));
+      }
+
+-- In a loop: the rest w, written from o on, makes what the whole makes from the start.
+pub record Rest (o₀ : ℕ) (w₀ d₀ : List ℕ) (o : ℕ) (w d : List ℕ) : Type 0 where
+  pub room : Room o₀ w₀ d₀
+  pub total : o + length w ≡ o₀ + length w₀
+  pub same : lay o w d ≡ lay o₀ w₀ d₀
+  pub sameLength : length d ≡ length d₀
+
+pub rest-none : {o : ℕ} {w d : List ℕ} → Room o w d → Rest o w d o w d
+rest-none R = record { room = R; total = refl; same = refl; sameLength = refl }
+
+pub rest-from : {o : ℕ} {w x d : List ℕ} → Room o w d → w ≡ x → Rest o w d o x d
+rest-from {o} {w} {x} {d} R e = subst (λ (y : List ℕ). Rest o w d o y d) e (rest-none R)
+
+module _ {o₀ : ℕ} {w₀ d₀ : List ℕ} {o : ℕ} {w d : List ℕ} (K : Rest o₀ w₀ d₀ o w d) where
+  pub rest-room : Room o w d
+  rest-room =
+      let f : o₀ + length w₀ ≤ length d₀ = K .room .fits in
+      let m : o₀ + length w₀ ≤ 65535 = K .room .small in
+      let t : o + length w ≡ o₀ + length w₀ = K .total in
+      let l : length d ≡ length d₀ = K .sameLength in
+      record { fits = omega arith; small = omega arith }
+
+  pub rest-as : (x : List ℕ) → w ≡ x → Room o x d
+  rest-as x e = subst (λ (y : List ℕ). Room o y d) e rest-room
+
+  pub rest-more : (a b : List ℕ) → w ≡ a ++ b → {r : ℕ} {d′ : List ℕ} → Wrote o a d r d′ → Rest o₀ w₀ d₀ r b d′
+  rest-more a b e {r} {d′} W =
+      let R : Room o (a ++ b) d = rest-as (a ++ b) e in
+      let q : length (a ++ b) ≡ length a + length b = length-append a b in
+      let p : length w ≡ length (a ++ b) = ap length e in
+      let n : r ≡ o + length a = W .next in
+      let t : o + length w ≡ o₀ + length w₀ = K .total in
+      record {
+        room = K .room;
+        total = omega arith;
+        same =
+            ap (λ (k : ℕ). lay k b d′) n
+            ∙ (ap (λ (x : List ℕ). lay (o + length a) b x) (W .laid)
+            ∙ (lay-lay o a b d (room-front a b R .fits) ∙ (ap (λ (x : List ℕ). lay o x d) (sym e) ∙ K .same)));
+        sameLength = wrote-length (room-front a b R) W ∙ K .sameLength;
+      }
+
+  pub rest-done : w ≡ [] → Wrote o₀ w₀ d₀ o d
+  rest-done e =
+      let t : o + length w ≡ o₀ + length w₀ = K .total in
+      let p : length w ≡ 0 = ap length e in
+      record { next = omega arith; laid = sym (lay-nil o d) ∙ (ap (λ (x : List ℕ). lay o x d) (sym e) ∙ K .same) }
+
+-- Single bytes, as they are stored.
+module _ {o : ℕ} {d : List ℕ} where
+  pub wrote-one : {x r : ℕ} → Room o (x ∷ []) d → r ≡ o + 1 → Wrote o (x ∷ []) d r (set d o x)
+  wrote-one {x} R e = let f : o + 1 ≤ length d = R .fits in record { next = e; laid = lay-one o x d (omega arith) }
+
+  pub wrote-two : {x y r : ℕ} → Room o (x ∷ y ∷ []) d → r ≡ o + 2 → Wrote o (x ∷ y ∷ []) d r (set (set d o x) (o + 1) y)
+  wrote-two {x} {y} R e = record { next = e; laid = lay-two o x y d (R .fits) }
+
+  pub wrote-three : {x y z r : ℕ} → Room o (x ∷ y ∷ z ∷ []) d → r ≡ o + 3 → Wrote o (x ∷ y ∷ z ∷ []) d r (set (set (set d o x) (o + 1) y) (o + 2) z)
+  wrote-three {x} {y} {z} R e = record { next = e; laid = lay-three o x y z d (R .fits) }
+
+  pub wrote-four : {x y z w r : ℕ} → Room o (x ∷ y ∷ z ∷ w ∷ []) d → r ≡ o + 4
+      → Wrote o (x ∷ y ∷ z ∷ w ∷ []) d r (set (set (set (set d o x) (o + 1) y) (o + 2) z) (o + 3) w)
+  wrote-four {x} {y} {z} {w} R e = record { next = e; laid = lay-four o x y z w d (R .fits) }
+
+-- The lists that loops write, first element first; n is one more than m.
+pub slots-more : (x n m : ℕ) → n ≡ m + 1 → slotsFrom x n ≡ (x ∷ []) ++ slotsFrom (x + 1) m
+slots-more x n m e =
+    let p : n ≡ suc m = omega arith in
+    let q : suc x ≡ x + 1 = omega arith in
+    ap (slotsFrom x) p ∙ ap (λ (y : ℕ). x ∷ slotsFrom y m) q
+
+pub zeros-more : (x n m : ℕ) → n ≡ m + 1 → zeros x n ≡ ((1 ∷ x ∷ []) ++ (0 ∷ 0 ∷ 0 ∷ 0 ∷ [])) ++ zeros (x + 1) m
+zeros-more x n m e =
+    let p : n ≡ suc m = omega arith in
+    let q : suc x ≡ x + 1 = omega arith in
+    ap (zeros x) p ∙ ap (λ (y : ℕ). ((1 ∷ x ∷ []) ++ (0 ∷ 0 ∷ 0 ∷ 0 ∷ [])) ++ zeros y m) q
+
+pub arguments-more : (s : List ℕ) (i n m : ℕ) → n ≡ m + 1 → i < length s
+    → map slotOf (take n (drop i s)) ≡ ((getD s i 0 + 2) ∷ []) ++ map slotOf (take m (drop (i + 1) s))
+arguments-more s i n m e h =
+    let p : n ≡ suc m = omega arith in
+    let q : suc i ≡ i + 1 = omega arith in
+    let t : suc (suc (getD s i 0)) ≡ getD s i 0 + 2 = omega arith in
+    ap (λ (k : ℕ). map slotOf (take k (drop i s))) p
+    ∙ (ap (λ (l : List ℕ). map slotOf (take (suc m) l)) (drop-cons s i 0 h)
+    ∙ (ap (λ (k : ℕ). suc (suc (getD s i 0)) ∷ map slotOf (take m (drop k s))) q
+    ∙ ap (λ (k : ℕ). k ∷ map slotOf (take m (drop (i + 1) s))) t))
