@@ -2,8 +2,8 @@ use lib.Seq.{length-take-le, length-front}
 use native.Mathlib.Omega.{arith}
 use mathlib.Core.Path.{sym}
 use borrow.Author.Needs.{needs}
-use Rattle.cases.proofs.run_file.Statement.{statement}
-use Rattle.cases.proofs.run_file.Tie as tie
+use Rattle.procedure_cases.proofs.run_file.Statement.{statement}
+use Rattle.procedure_cases.proofs.run_file.Tie as tie
 
 returns : tie.Need-returns
 returns c = search needs

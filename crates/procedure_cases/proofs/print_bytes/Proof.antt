@@ -2,8 +2,8 @@ use native.Mathlib.Omega.{arith}
 use lib.ListN.{length}
 use Prim.Native.Nat.{_-_}
 use borrow.Author.Needs.{needs}
-use Rattle.cases.proofs.print_bytes.Statement.{statement}
-use Rattle.cases.proofs.print_bytes.Tie as tie
+use Rattle.procedure_cases.proofs.print_bytes.Statement.{statement}
+use Rattle.procedure_cases.proofs.print_bytes.Tie as tie
 
 abbrev Inv-loop : tie.InvT-loop
 Inv-loop bytes i₀ t3 i = Unit

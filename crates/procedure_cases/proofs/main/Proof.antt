@@ -1,6 +1,6 @@
 use borrow.Author.Needs.{needs}
-use Rattle.cases.proofs.main.Statement.{statement}
-use Rattle.cases.proofs.main.Tie as tie
+use Rattle.procedure_cases.proofs.main.Statement.{statement}
+use Rattle.procedure_cases.proofs.main.Tie as tie
 
 abbrev Inv-loop : tie.InvT-loop
 Inv-loop buffer₀ turns₀ buffer turns = Unit

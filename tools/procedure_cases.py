@@ -1,7 +1,7 @@
 #!/usr/bin/env python3
-"""Makes crates/cases/stdin and crates/cases/stdout: procedure files, and what document 01 says of each.
+"""Makes crates/procedure_cases/stdin and crates/procedure_cases/stdout: procedure files, and what document 01 says of each.
 
-  cases.py VECTORS    VECTORS: the lines of program `both`'s vectors (hexadecimal input, a colon, what it prints)
+  procedure_cases.py VECTORS    VECTORS: the lines of program `both`'s vectors (hexadecimal input, a colon, what it prints)
 
 The answers come from the plain model below, written from document 01 and from nothing else in this repository."""
 import os, sys
@@ -193,7 +193,7 @@ def records(path):
 
 
 def main():
-    here = os.path.join(os.path.dirname(os.path.abspath(__file__)), "..", "crates", "cases")
+    here = os.path.join(os.path.dirname(os.path.abspath(__file__)), "..", "crates", "procedure_cases")
     with open(os.path.join(here, "stdin"), "wb") as i, open(os.path.join(here, "stdout"), "w") as o:
         for kind, f, l, s in records(sys.argv[1]):
             i.write(bytes([kind, f, l]) + len(s).to_bytes(3, "little") + s)
