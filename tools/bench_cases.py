@@ -4,10 +4,8 @@
 The answers come from tools/procedure.py, and from the words of a frame in docs/FRAMES.md. Where a vector gives the bench's run, the model
 must give the same.
 """
-import sys
-
 from procedure import Bench, T, check
-from records import Refused, header, little, vectors, write
+from records import Refused, agree, header, judge_call, little, vectors, write
 
 
 def field(data, at, size, signed=False):
@@ -23,10 +21,7 @@ def expected(delta, data):
     depth, budget, file = field(data, at, 2), field(data, at + 2, 4), data[at + 6:]
     try:
         functions = check(file)
-        if count != functions[0].parameters:
-            raise Refused(14, 0)
-        if depth > 256 or max(0, 48 * depth + delta - 128) < 48 * depth:
-            raise Refused(16, 0)
+        judge_call(count, functions[0].parameters, depth, delta)
     except Refused as r:
         return f"{r} kept"
     bench = Bench(file, functions, arguments)
@@ -38,7 +33,6 @@ def expected(delta, data):
 cases = []
 
 
-# A call of the bench: `delta` less 128 is how many words are lent beyond 48 a frame.
 def add(file, arguments, depth, budget, delta=140):
     cases.append((delta, header(arguments, depth, budget) + file))
 
@@ -64,10 +58,8 @@ for data, text in vectors("both.txt"):
     if not 1 <= len(data) <= 400:
         continue
     cases.append((140, data))
-    ours = expected(*cases[-1])
     given = next((line[6:] for line in text.split(" | ") if line.startswith("bench ")), text)
-    if ours.split(" extras")[0].removesuffix(" kept") != given:
-        sys.exit(f"the vectors and the model differ: {data.hex()} {given} | {ours}")
+    agree(data, given, expected(*cases[-1]).split(" extras")[0].removesuffix(" kept"))
 
 write("bench_cases", (bytes([delta]) + little(len(data), 2) + data for delta, data in cases), (expected(*case) + "\n" for case in cases))
 print(len(cases), "cases")

@@ -1,14 +1,13 @@
 #!/usr/bin/env python3
 """Writes the cases of crates/controller_cases and the answers expected: run in the repository's root. Needs ../shared/vectors/target.txt.
 
-The answers come from tools/target.py, with the caller's refusals 14 and 16. Where the vectors give a refusal or a run, it must give the same.
+The answers come from tools/target.py. Where a vector gives a refusal or a run, the model must give the same.
 """
-import sys
 from collections import Counter
 
 from procedure import T as PROCEDURE
 from procedure import translation
-from records import Refused, constant, difference, duplicate, little, signed, vectors, write
+from records import Refused, agree, constant, difference, duplicate, judge_call, little, signed, vectors, write
 from target import both, branch, check, continuation, function, handle, jump, resume, run, target
 
 
@@ -16,10 +15,7 @@ def expected(case):
     delta, arguments, depth, budget, file = case
     try:
         functions = check(file)
-        if len(arguments) != functions[0][0]:
-            raise Refused(14, 0)
-        if depth > 256 or max(0, 48 * depth + delta - 128) < 48 * depth:
-            raise Refused(16, 0)
+        judge_call(len(arguments), functions[0][0], depth, delta)
     except Refused as r:
         return f"{r} kept"
     stop, steps, places = run(functions, arguments, depth, budget)
@@ -29,7 +25,6 @@ def expected(case):
 cases = []
 
 
-# `delta` less 128 is how many words are lent beyond 48 a record.
 def add(file, arguments, depth, budget, delta=128):
     cases.append((delta, list(arguments), depth, budget, bytes(file)))
 
@@ -49,9 +44,7 @@ for file, *fields in vectors("target.txt"):
         add(file, arguments, int(words[at + 1]), int(words[at + 3]))
         given = fields[1]
         short.append((file, arguments))
-    ours = expected(cases[-1])
-    if given != ours.split(" records")[0].removesuffix(" kept"):
-        sys.exit(f"the vectors and the model differ: {file.hex()} {given} | {ours}")
+    agree(file, given, expected(cases[-1]).split(" records")[0].removesuffix(" kept"))
 
 # File T of document 01, translated.
 T = translation(PROCEDURE)

@@ -52,6 +52,20 @@ def wrapped(z):
     return (z - LEAST) % 2 ** 32 + LEAST
 
 
+def judge_call(given, wanted, depth, delta):
+    """The refusals of a machine's call: 14, then 16. `delta` less 128 is how many words are lent beyond 48 a frame of the depth."""
+    if given != wanted:
+        raise Refused(14, 0)
+    if depth > 256 or max(0, 48 * depth + delta - 128) < 48 * depth:
+        raise Refused(16, 0)
+
+
+def agree(data, given, ours):
+    """Ends the program where a vector gives another answer than the model."""
+    if given != ours:
+        sys.exit(f"the vectors and the model differ at {data.hex()}: {given} | {ours}")
+
+
 def write(crate, records, answers):
     """Stores a program's input and the text that it is to print."""
     with open(os.path.join("crates", crate, "stdin"), "wb") as f:

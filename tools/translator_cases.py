@@ -1,12 +1,11 @@
 #!/usr/bin/env python3
-"""Writes the cases of crates/translator_cases and the answers expected: run in the repository's root. Needs ../shared/vectors/translation.txt.
+"""Writes the cases of crates/translator_cases and the answers expected: run in the repository's root. Needs
+../shared/vectors/translation.txt.
 
 The answers come from tools/procedure.py. Where a vector gives the translation, the model must give the same.
 """
-import sys
-
 from procedure import LIMIT, Function, T, call, difference, duplicate, goto, throw, translation, written
-from records import Refused, little, vectors, write
+from records import Refused, agree, little, vectors, write
 
 cases = []
 
@@ -16,10 +15,8 @@ def add(file, room):
 
 
 for file, given in vectors("translation.txt"):
-    given = bytes.fromhex(given)
-    if translation(file) != given:
-        sys.exit(f"the vectors and the model differ: {file.hex()}")
-    add(file, len(given))
+    agree(file, given, translation(file).hex())
+    add(file, len(given) // 2)
 
 # Room for the translation of T exactly, one byte too few, none, and more: what stands behind the translation is kept.
 for room in (106, 105, 0, 300):
