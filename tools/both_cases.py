@@ -1,19 +1,27 @@
 #!/usr/bin/env python3
-"""Writes the cases of crates/both_cases and the texts expected: run in the repository's root.
+"""Writes the cases of crates/both_cases and the texts expected: run in the repository's root. Needs ../shared/vectors/both.txt, and
+../shared/peer/both.c, which it compiles with `cc` in a temporary folder.
 
-    tools/both_cases.py VECTORS PEER
-
-VECTORS is the file of vectors of program `both`; PEER is a program that reads one input of `both` and prints its text, written by other
-hands than the crates. The text of a vector is the one that the vectors give; the text of any other case is the peer's, and where document
-01 lays it down it is written here too. Where a text given and the peer's differ, the one given is taken, and the difference is told.
+The peer is a program that reads one input of `both` and prints its text, written by other hands than the crates. The text of a vector is the
+one that the vectors give; the text of any other case is the peer's, and where document 01 lays it down it is written here too. Where a text
+given and the peer's differ, the one given is taken, and the difference is told.
 """
 import os
 import random
+import shutil
 import subprocess
 import sys
+import tempfile
 from collections import Counter
 
-vectors, peer = sys.argv[1], os.path.abspath(sys.argv[2])
+from procedure import T, T_FUNCTIONS, Function, back, branch, call, constant, difference, duplicate, goto, throw, translation, written
+from records import GREATEST, LEAST, header, little, shared, vectors, write
+
+if shutil.which("cc") is None:
+    sys.exit("cc is missing: the peer cannot be compiled")
+folder = tempfile.TemporaryDirectory()
+peer = os.path.join(folder.name, "both")
+subprocess.run(["cc", "-O1", "-o", peer, shared("peer", "both.c")], check=True)
 cases, differences = [], []
 
 
@@ -29,11 +37,6 @@ def add_input(data, given=None):
         differences.append((data.hex(), given, text))
     cases.append((data, text if given is None else given))
     return cases[-1][1]
-
-
-def header(arguments, depth, budget):
-    values = b"".join((a % 2 ** 32).to_bytes(4, "little") for a in arguments)
-    return bytes([len(arguments)]) + values + depth.to_bytes(2, "little") + budget.to_bytes(4, "little")
 
 
 def add(file, arguments, depth, budget, given=None):
@@ -52,76 +55,14 @@ def ended(target, end, bench, controller):
 no_header = "no header\n"
 most = 2 ** 32 - 1
 
-for line in open(vectors):
-    if not line.startswith("#") and line.strip():
-        data, text = line.split(":")
-        add_input(bytes.fromhex(data.strip()), text.strip().replace(" | ", "\n") + "\n")
+for data, text in vectors("both.txt"):
+    add_input(data, text.replace(" | ", "\n") + "\n")
 from_vectors = len(cases)
 
 
-# Operations, functions and procedures.
-def constant(v, value):
-    return bytes([1, v]) + (value % 2 ** 32).to_bytes(4, "little")
-
-
-def duplicate(v, y):
-    return bytes([2, v, y])
-
-
-def difference(v, y, z):
-    return bytes([3, v, y, z])
-
-
-def call(v, function, arguments):
-    return bytes([4, v, function, len(arguments), *arguments])
-
-
-def goto(label):
-    return bytes([5, label])
-
-
-def back(v):
-    return bytes([6, v])
-
-
-def branch(y, z, label, other):
-    return bytes([7, y, z, label, other])
-
-
-throw = bytes([8])
-
-
-# A function: its counts, the operations of its entry block, and handler and operations of each labelled block.
-class Function:
-    def __init__(self, parameters, locals_, entry, *blocks):
-        self.parameters, self.locals, self.entry, self.blocks = parameters, locals_, entry, blocks
-
-    def written(self):
-        labelled = b"".join(bytes([handler]) + b"".join(block) for handler, block in self.blocks)
-        return bytes([self.parameters, self.locals, len(self.blocks)]) + b"".join(self.entry) + labelled
-
-    # The length of the function and its labelled blocks in the translated file.
-    def translated(self):
-        values = self.parameters + self.locals
-
-        def length(operation, handler):
-            jump = 6 + values
-            if operation[0] == 4:
-                rest = 6 + operation[3]
-                return 6 + rest + 2 + jump if handler else 5 + rest
-            raised = jump if handler else 2
-            return {1: 6, 2: 3, 3: 4, 5: jump, 6: 3, 7: 5 + 2 * jump, 8: raised}[operation[0]]
-
-        entry = 3 + 6 * self.locals + sum(length(o, 0) for o in self.entry)
-        return entry + sum(3 + sum(length(o, handler) for o in block) for handler, block in self.blocks)
-
-
-def written(*functions):
-    return b"SPF\1\0" + bytes([len(functions)]) + b"".join(f.written() for f in functions)
-
-
+# The length of the translation of a procedure.
 def translated(*functions):
-    return 7 + sum(f.translated() for f in functions)
+    return len(translation(written(*functions)))
 
 
 # An accepted procedure, run: the first line is known from the rules of translation.
@@ -135,32 +76,27 @@ def add_run(functions, arguments, depth, budget, given=None):
 
 
 # File T of document 01: its own cases, and every budget up to past its end.
-T = [
-    Function(1, 1, [goto(1)], (2, [call(1, 1, [0]), back(1)]), (0, [constant(1, 7), back(1)])),
-    Function(1, 1, [branch(0, 1, 1, 2)], (0, [throw]), (0, [back(0)]))]
-file = written(*T)
-assert file.hex() == "5350460100020101020501020401010100060100010107000000060101010207000101020008000600"
-add_run(T, [5], 256, 100, ended(106, "value 5", 5, 9))
-add_run(T, [0], 256, 100, ended(106, "value 7", 6, 11))
-add_run(T, [5], 0, 100, ended(106, "deep", 1, 2))
+add_run(T_FUNCTIONS, [5], 256, 100, ended(106, "value 5", 5, 9))
+add_run(T_FUNCTIONS, [0], 256, 100, ended(106, "value 7", 6, 11))
+add_run(T_FUNCTIONS, [5], 0, 100, ended(106, "deep", 1, 2))
 for argument, end, steps in ((5, "value 5", [1, 2, 5, 7, 8, 9]), (0, "value 7", [1, 2, 5, 7, 9, 10, 11])):
     for budget in range(13):
         if budget < len(steps) - 1:
             given = ended(106, "spent", budget, steps[budget])
         else:
             given = ended(106, end, len(steps) - 1, steps[-1])
-        add_run(T, [argument], 256, budget, given)
+        add_run(T_FUNCTIONS, [argument], 256, budget, given)
 
 # What the caller can cause, and its order after what the file's writer can.
 for arguments in ([1, 2], [], [0] * 8, [0] * 255):
-    add(file, arguments, 256, 100, refused(14))
-    add(file, arguments, 257, 100, refused(14))
+    add(T, arguments, 256, 100, refused(14))
+    add(T, arguments, 257, 100, refused(14))
 for depth in (257, 65535):
     for budget in (0, 100, most):
-        add(file, [5], depth, budget, refused(16))
+        add(T, [5], depth, budget, refused(16))
 for data, given in (
-        (b"", refused(3, 0)), (b"SPG", refused(1, 2)), (file[:-1], refused(3, 40)), (file + b"\0", refused(4, 41)),
-        (file[:11] + b"\3" + file[12:], refused(8, 11)), (file[:28] + b"\2" + file[29:], refused(10, 15))):
+        (b"", refused(3, 0)), (b"SPG", refused(1, 2)), (T[:-1], refused(3, 40)), (T + b"\0", refused(4, 41)),
+        (T[:11] + b"\3" + T[12:], refused(8, 11)), (T[:28] + b"\2" + T[29:], refused(10, 15))):
     add(data, [5], 256, 100, given)
     add(data, [5, 6], 257, 100, given)
 
@@ -235,16 +171,15 @@ add(beyond[:-1] + b"\x3f", [9], 257, 100, refused(8, len(beyond) - 1))
 add(beyond + b"\0", [9], 257, 100, refused(4, len(beyond)))
 
 # Ends of the range.
-least, greatest = -2 ** 31, 2 ** 31 - 1
-ends = (least, least + 1, -1, 0, 1, greatest - 1, greatest)
+ends = (LEAST, LEAST + 1, -1, 0, 1, GREATEST - 1, GREATEST)
 for value in ends:
     add_run([Function(0, 1, [constant(0, value), back(0)])], [], 0, 2, ended(25, f"value {value}", 2, 3))
     add_run([Function(1, 0, [back(0)])], [value], 0, 1, ended(13, f"value {value}", 1, 1))
 less = [Function(2, 0, [difference(0, 0, 1), back(0)])]
 smaller = [Function(2, 0, [branch(0, 1, 1, 2)], (0, [back(0)]), (0, [back(1)]))]
 for y, z, value in (
-        (least, 1, greatest), (greatest, -1, least), (least, greatest, 1), (greatest, least, -1), (0, least, least), (-1, least, greatest),
-        (least, least, 0)):
+        (LEAST, 1, GREATEST), (GREATEST, -1, LEAST), (LEAST, GREATEST, 1), (GREATEST, LEAST, -1), (0, LEAST, LEAST), (-1, LEAST, GREATEST),
+        (LEAST, LEAST, 0)):
     add_run(less, [y, z], 0, 100, ended(17, f"value {value}", 2, 2))
     add_run(smaller, [y, z], 0, 100, ended(translated(*smaller), f"value {min(y, z)}", 2, 3))
 
@@ -271,11 +206,11 @@ for depth in range(5):
         add_run(functions, [3], depth, 100, ended(translated(*functions), *given))
     add_run(climbing, [3], depth, 100)
     add_run(climbing, [4], depth, 100)
-for functions, arguments in ((T, [0]), (counting, [3]), (falling, [3]), (climbing, [4]), (lost, []), (raising, [])):
+for functions, arguments in ((T_FUNCTIONS, [0]), (counting, [3]), (falling, [3]), (climbing, [4]), (lost, []), (raising, [])):
     for budget in (0, 1, most):
         add_run(functions, arguments, 5, budget)
 for functions in (counting, falling, climbing):
-    for argument in (255, 256, 257, greatest):
+    for argument in (255, 256, 257, GREATEST):
         add_run(functions, [argument], 256, most)
 
 # Handlers and frames. The exception passes all frames of a descent; it is raised in a handler's own function, with the variables of then;
@@ -313,7 +248,7 @@ add_run(endless, [], 255, 256, ended(30, "deep", 255, 766))
 
 # Random procedures, each of them accepted.
 source = random.Random(20)
-values = (least, greatest, -3, -2, -1, 0, 1, 2, 3, 5)
+values = (LEAST, GREATEST, -3, -2, -1, 0, 1, 2, 3, 5)
 
 
 def random_function(counts, shapes):
@@ -362,14 +297,9 @@ for _ in range(100):
     made.append(add_run(functions, arguments, source.randrange(6), source.randrange(201)))
 
 assert len(cases) < 600
-with open("crates/both_cases/stdin", "wb") as f:
-    for data, _ in cases:
-        f.write(len(data).to_bytes(2, "little") + data)
-    # An input too long: the run ends here, and what follows gets no answer.
-    for data in (bytes(4097), header([5], 256, 100) + file):
-        f.write(len(data).to_bytes(2, "little") + data)
-with open("crates/both_cases/stdout", "w") as f:
-    f.write("".join(text for _, text in cases))
+# An input too long: the run ends there, and what follows gets no answer.
+inputs = [data for data, _ in cases] + [bytes(4097), header([5], 256, 100) + T]
+write("both_cases", (little(len(data), 2) + data for data in inputs), (text for _, text in cases))
 
 
 def kind(text):

@@ -1,152 +1,23 @@
 #!/usr/bin/env python3
-"""Writes the cases of crates/controller_cases and the answers expected: run in the repository's root with the file of vectors.
+"""Writes the cases of crates/controller_cases and the answers expected: run in the repository's root. Needs ../shared/vectors/target.txt.
 
-    tools/controller_cases.py VECTORS
-
-The answers come from `expected`: an interpreter of accepted translated files after document 01 that shares nothing with the crates, and
-the caller's refusals 14 and 16. The refusal of a malformed file is the one that the vectors give. Where the vectors give a run, the
-interpreter must give the same.
+The answers come from tools/target.py. Where a vector gives a refusal or a run, the model must give the same.
 """
-import sys
 from collections import Counter
 
-sys.setrecursionlimit(100000)
-
-
-# A body node: its tag, the place of its tag, its fields, and the parts that it holds.
-class Node:
-    def __init__(self, place, tag, fields, parts):
-        self.place, self.tag, self.fields, self.parts = place, tag, fields, parts
-
-
-def two(s, p):
-    return s[p] + 256 * s[p + 1]
-
-
-# The node at p, and the place past it with its parts.
-def read_node(s, p):
-    tag = s[p]
-    if tag == 1:
-        value = int.from_bytes(s[p + 2:p + 6], "little", signed=True)
-        rest, end = read_node(s, p + 6)
-        return Node(p, tag, (s[p + 1], value), (rest,)), end
-    if tag in (2, 3):
-        rest, end = read_node(s, p + tag + 1)
-        return Node(p, tag, tuple(s[p + 1:p + tag + 1]), (rest,)), end
-    if tag == 4:
-        end = p + 6 + s[p + 5]
-        return Node(p, tag, (two(s, p + 1), s[p + 3], s[p + 4], tuple(s[p + 6:end])), ()), end
-    if tag == 5:
-        return Node(p, tag, (s[p + 1], s[p + 2]), ()), p + 3
-    if tag == 6:
-        return Node(p, tag, (s[p + 1],), ()), p + 2
-    head = {7: 5, 8: 5, 9: 6}[tag]
-    first, end = read_node(s, p + head)
-    assert end - (p + head) == two(s, p + head - 2)
-    parts = [first]
-    if tag == 9:
-        start = end + 2
-        handler, past = read_node(s, start)
-        assert past - start == two(s, end)
-        parts.append(handler)
-        end = past
-    last, end = read_node(s, end)
-    parts.append(last)
-    return Node(p, tag, tuple(s[p + 1:p + head - 2]), tuple(parts)), end
-
-
-# The functions of an accepted file: parameter count and body.
-def read_file(s):
-    assert s[:3] == b"SPC" and two(s, 3) == 1
-    functions, p = [], 7
-    for _ in range(two(s, 5)):
-        body, end = read_node(s, p + 3)
-        assert end - (p + 3) == two(s, p + 1)
-        functions.append((s[p], body))
-        p = end
-    assert p == len(s)
-    return functions
-
-
-# A record in use: its node and the slots bound before it.
-class Record:
-    def __init__(self, node, slots):
-        self.node, self.slots = node, slots
-
-
-# How a run stops, the steps taken, and the places of the records in use where it stopped. A slot holds its kind and a value: a number,
-# a record, or None for the outermost ends.
-def run(functions, arguments, depth, budget):
-    slots = {0: ("continuation", None), 1: ("handler", None)}
-    slots.update({2 + i: ("whole", a) for i, a in enumerate(arguments)})
-    records, node, steps = [], functions[0][1], 0
-
-    def held(slot, kind):
-        assert slots[slot][0] == kind and slot < 36
-        return slots[slot][1]
-
-    while steps < budget:
-        tag, f = node.tag, node.fields
-        if tag in (8, 9) and len(records) == depth:
-            return "deep", steps, [r.node.place for r in records]
-        steps += 1
-        if tag == 1:
-            slots = {**slots, f[0]: ("whole", f[1])}
-            node = node.parts[0]
-        elif tag == 2:
-            slots = {**slots, f[0]: ("whole", held(f[1], "whole"))}
-            node = node.parts[0]
-        elif tag == 3:
-            exact = held(f[1], "whole") - held(f[2], "whole")
-            slots = {**slots, f[0]: ("whole", (exact + 2 ** 31) % 2 ** 32 - 2 ** 31)}
-            node = node.parts[0]
-        elif tag == 4:
-            values = [held(y, "whole") for y in f[3]]
-            k, h = held(f[1], "continuation"), held(f[2], "handler")
-            count, node = functions[f[0]]
-            assert count == len(values)
-            slots = {0: ("continuation", k), 1: ("handler", h)}
-            slots.update({2 + i: ("whole", v) for i, v in enumerate(values)})
-        elif tag in (5, 6):
-            record = held(f[0], "continuation" if tag == 5 else "handler")
-            value = held(f[1], "whole") if tag == 5 else None
-            if record is None:
-                return ("uncaught" if tag == 6 else f"value {value}"), steps, []
-            at = [i for i, r in enumerate(records) if r is record]
-            assert len(at) == 1
-            records = records[:at[0]]
-            slots = record.slots
-            if tag == 5:
-                slots = {**slots, record.node.fields[1]: ("whole", value)}
-                node = record.node.parts[-1]
-            else:
-                node = record.node.parts[1]
-        elif tag == 7:
-            node = node.parts[0 if held(f[0], "whole") <= held(f[1], "whole") else 1]
-        else:
-            record = Record(node, slots)
-            records = records + [record]
-            slots = {**slots, f[0]: ("continuation", record)}
-            if tag == 9:
-                slots = {**slots, f[2]: ("handler", record)}
-            node = node.parts[0]
-    return "spent", steps, [r.node.place for r in records]
-
-
-# How many words are lent: 48 a record, and so many more or fewer.
-def lent(depth, delta):
-    return max(0, 48 * depth + delta - 128) if depth < 260 else 13000
+from procedure import T as PROCEDURE
+from procedure import translation
+from records import Refused, agree, constant, difference, duplicate, judge_call, little, signed, vectors, write
+from target import both, branch, check, continuation, function, handle, jump, resume, run, target
 
 
 def expected(case):
-    delta, arguments, depth, budget, file, refusal = case
-    if refusal is not None:
-        return refusal + " kept"
-    functions = read_file(file)
-    if len(arguments) != functions[0][0]:
-        return "refused 14 at 0 kept"
-    if depth > 256 or lent(depth, delta) < 48 * depth:
-        return "refused 16 at 0 kept"
+    delta, arguments, depth, budget, file = case
+    try:
+        functions = check(file)
+        judge_call(len(arguments), functions[0][0], depth, delta)
+    except Refused as r:
+        return f"{r} kept"
     stop, steps, places = run(functions, arguments, depth, budget)
     return f"{stop} steps {steps} records" + "".join(f" {p}" for p in places) + " cleared kept"
 
@@ -154,35 +25,29 @@ def expected(case):
 cases = []
 
 
-def add(file, arguments, depth, budget, delta=128, refusal=None):
-    cases.append((delta, list(arguments), depth, budget, bytes(file), refusal))
+def add(file, arguments, depth, budget, delta=128):
+    cases.append((delta, list(arguments), depth, budget, bytes(file)))
 
 
 # The vectors as they stand, and each accepted file with depth 2 and a small budget.
 short = []
 wrong = {}
-for line in open(sys.argv[1]):
-    if line.startswith("#") or not line.strip():
-        continue
-    fields = line.strip().split(" : ")
-    file = bytes.fromhex(fields[0])
-    if len(fields) == 2:
-        add(file, [], 256, 100, refusal=fields[1])
-        wrong[fields[1].split()[1]] = (file, fields[1])
+for file, *fields in vectors("target.txt"):
+    if len(fields) == 1:
+        add(file, [], 256, 100)
+        given = fields[0]
+        wrong[given.split()[1]] = file
     else:
-        words = fields[1].split()
+        words = fields[0].split()
         at = words.index("depth")
         arguments = [int(w) for w in words[1:at] if w != "-"]
         add(file, arguments, int(words[at + 1]), int(words[at + 3]))
-        given, ours = fields[2], expected(cases[-1]).split(" records")[0]
-        if given != ours:
-            sys.exit(f"the vectors and the interpreter differ: {line.strip()} | {ours}")
+        given = fields[1]
         short.append((file, arguments))
+    agree(file, given, expected(cases[-1]).split(" records")[0].removesuffix(" kept"))
 
 # File T of document 01, translated.
-T = bytes.fromhex(
-    "53504301000600010e000103000000000401000001020203021a000904030507000403000405010208000402000001020203050003"
-    "020900010307000000050003011b000103000000000702030800040400000102020304050000010202030202000601020300050002")
+T = translation(PROCEDURE)
 most = 2 ** 64 - 1
 add(T, [5], 256, 100)
 add(T, [0], 256, 100)
@@ -198,9 +63,8 @@ for i, (file, arguments) in enumerate(short):
 
 # The file's own refusal comes before those of the call.
 for number in sorted(wrong, key=int):
-    file, refusal = wrong[number]
-    add(file, [1] * 33, 257, most, 0, refusal)
-add(bytes(65536), [], 2, 100, refusal="refused 15 at 65535")
+    add(wrong[number], [1] * 33, 257, most, 0)
+add(bytes(65536), [], 2, 100)
 
 # The call: words lent, depth, argument count.
 for delta in (0, 127, 128, 129, 255):
@@ -220,58 +84,6 @@ for budget in (2 ** 32 - 1, 2 ** 32, 2 ** 32 + 1, 2 ** 63, most):
     add(T, [0], 1, budget, 255)
 add(T, [0], 0, most, 255)
 add(T, [0], 0, 0, 255)
-
-
-def sixteen(n):
-    return bytes([n % 256, n // 256])
-
-
-def sized(part):
-    return sixteen(len(part)) + part
-
-
-def function(parameters, body):
-    return bytes([parameters]) + sized(body)
-
-
-def target(*functions):
-    return b"SPC" + sixteen(1) + sixteen(len(functions)) + b"".join(functions)
-
-
-def constant(slot, value):
-    return bytes([1, slot]) + (value % 2 ** 32).to_bytes(4, "little")
-
-
-def duplicate(slot, y):
-    return bytes([2, slot, y])
-
-
-def difference(slot, y, z):
-    return bytes([3, slot, y, z])
-
-
-def jump(number, k, h, values):
-    return bytes([4]) + sixteen(number) + bytes([k, h, len(values), *values])
-
-
-def resume(k, y):
-    return bytes([5, k, y])
-
-
-def handle(h):
-    return bytes([6, h])
-
-
-def branch(y, z, first, other):
-    return bytes([7, y, z]) + sized(first) + other
-
-
-def continuation(slot, parameter, rest, body):
-    return bytes([8, slot, parameter]) + sized(rest) + body
-
-
-def both(slot, parameter, handler, rest, caught, body):
-    return bytes([9, slot, parameter, handler]) + sized(rest) + sized(caught) + body
 
 
 # Four records of one function, and then `last`: it applies one of them, which drops it and those made later.
@@ -300,7 +112,7 @@ handed = target(
 
 # Each budget from the first on, up to the end of the run.
 def each_budget(file, arguments, depth, first=0):
-    steps = run(read_file(file), arguments, depth, 10000)[1]
+    steps = run(check(file), arguments, depth, 10000)[1]
     for budget in range(first, steps + 1):
         add(file, arguments, depth, budget, 255)
 
@@ -318,7 +130,7 @@ for last in (handle(1), resume(0, 2)):
     for depth in (0, 1, 4, 5, 6, 7):
         add(descent(last), [5], depth, most, 129)
 for last in (handle(1), resume(0, 2)):
-    steps = run(read_file(descent(handle(1))), [255], 256, 10000)[1]
+    steps = run(check(descent(handle(1))), [255], 256, 10000)[1]
     for budget in (steps - 4, steps - 3, steps - 2, steps - 1, steps, most):
         add(descent(last), [255], 256, budget, 255)
 add(descent(handle(1)), [256], 256, most, 255)
@@ -367,12 +179,9 @@ for y, z in ((-2 ** 31, 1), (2 ** 31 - 1, -1), (-2 ** 31, 2 ** 31 - 1), (2 ** 31
     add(least, [y, z], 0, 100)
 
 assert len(cases) < 500
-with open("crates/controller_cases/stdin", "wb") as f:
-    for delta, arguments, depth, budget, file, _ in cases:
-        f.write(bytes([delta, len(arguments)]) + depth.to_bytes(2, "little") + budget.to_bytes(8, "little"))
-        f.write(len(file).to_bytes(3, "little"))
-        f.write(b"".join((a % 2 ** 32).to_bytes(4, "little") for a in arguments) + file)
-with open("crates/controller_cases/stdout", "w") as f:
-    for case in cases:
-        f.write(expected(case) + "\n")
+write(
+    "controller_cases",
+    (bytes([delta, len(arguments)]) + little(depth, 2) + little(budget, 8) + little(len(file), 3) + signed(arguments) + file
+     for delta, arguments, depth, budget, file in cases),
+    (expected(case) + "\n" for case in cases))
 print(len(cases), Counter(" ".join(line.split()[:2]) if line.startswith("refused") else line.split()[0] for line in map(expected, cases)))

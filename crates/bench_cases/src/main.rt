@@ -5,249 +5,117 @@
 use bench::machine::Answer;
 use bench::machine::Stopped;
 use bench::machine::run;
-use libc::STDIN_FILENO;
-use libc::STDOUT_FILENO;
+use case_io::input::argument_bytes;
+use case_io::input::arguments;
+use case_io::input::byte_at;
+use case_io::input::pair;
+use case_io::input::read_part;
+use case_io::input::read_whole;
+use case_io::input::word;
+use case_io::print::numbered;
+use case_io::print::say;
+use case_io::print::value;
+use case_io::words::UNTOUCHED;
+use case_io::words::lent;
+use case_io::words::print_frames;
+use case_io::words::print_refused;
+use case_io::words::print_rest;
 use parsing::Checked;
-use parsing::Refusal;
 
-fn say(word: &[u8]) {
-    io::write_all(STDOUT_FILENO, word);
-}
-
-fn number(n: u64) {
-    io::write_all(STDOUT_FILENO, b" ");
-    io::print_decimal(STDOUT_FILENO, n);
-}
-
-fn print_value(z: i32) {
-    if z < 0 {
-        say(b" -");
-    } else {
-        say(b" ");
-    }
-    io::print_decimal(STDOUT_FILENO, text::magnitude(z));
-}
-
-fn print_stop(s: Stopped) {
+// How the run stopped; the answer is how many frames are in use then.
+fn print_stop(s: Stopped, waiting: usize) -> usize {
     match s {
         Stopped::Value(z) => {
             say(b"value");
-            print_value(z);
+            value(z);
+            0
         }
         Stopped::Uncaught => {
             say(b"uncaught");
+            0
         }
         Stopped::Spent => {
             say(b"spent");
+            waiting
         }
         Stopped::Deep => {
             say(b"deep");
+            waiting
         }
     }
 }
 
-// Whether all words from a on, up to e, are x.
-fn all_are(words: &[i32], a: usize, e: usize, x: i32) -> bool {
-    let mut same = true;
-    let mut i = 0;
-    while i < words.len() {
-        if a <= i {
-            if i < e {
-                if words[i] != x {
-                    same = false;
-                }
-            }
-        }
-        i += 1;
-    }
-    same
-}
-
-// The four numbers of each waiting frame.
-fn print_frames(words: &[i32], waiting: usize) {
-    let mut i = 0;
-    while i < words.len() {
-        if i / 48 < waiting {
-            if i % 48 < 4 {
-                print_value(words[i]);
-            }
-        }
-        i += 1;
-    }
-}
-
-fn left(s: Stopped, waiting: usize) -> usize {
-    match s {
-        Stopped::Value(_) => 0,
-        Stopped::Uncaught => 0,
-        Stopped::Spent => waiting,
-        Stopped::Deep => waiting,
-    }
-}
-
-fn print_words(words: &[i32], waiting: usize, depth: usize) {
-    say(b" frames");
-    print_frames(words, waiting);
-    if waiting <= 256 {
-        if depth <= 256 {
-            if all_are(words, 48 * waiting, 48 * depth, 0) {
-                say(b" cleared");
-            }
-            if all_are(words, 48 * depth, 20000, 7) {
-                say(b" kept");
-            }
-        }
-    }
-}
-
+// The line of a record: of each waiting frame its four numbers.
 fn print_answer(a: Answer, words: &[i32], depth: usize) {
     let verdict = a.verdict;
-    let stopped = a.stopped;
-    let regs = a.regs;
     match verdict {
         Checked::Refused(r) => {
-            say(b"refused");
-            number(r.number as u64);
-            say(b" at");
-            number(r.place as u64);
-            if all_are(words, 0, 20000, 7) {
-                say(b" kept");
-            }
+            print_refused(r, words);
         }
         Checked::Accepted => {
-            print_stop(stopped);
-            say(b" steps");
-            number(a.steps);
-            say(b" extras");
-            number(a.extras);
-            print_words(words, left(stopped, regs.waiting), depth);
+            let regs = a.regs;
+            let stopped = a.stopped;
+            let waiting = print_stop(stopped, regs.waiting);
+            numbered(b" steps", a.steps);
+            numbered(b" extras", a.extras);
+            say(b" frames");
+            print_frames(words, waiting, 4);
+            print_rest(words, waiting, depth);
         }
     }
     say(b"\n");
 }
 
-// Argument i, of those behind the count.
-fn fill_one(input: &[u8], i: usize, args: &mut [i32]) {
-    if i < 256 {
-        let at = 4 * i + 1;
-        if at + 3 < input.len() {
-            if i < args.len() {
-                args[i] = parsing::value(input[at], input[at + 1], input[at + 2], input[at + 3]);
-            }
-        }
-    }
-}
-
-fn fill(input: &[u8], n: usize, args: &mut [i32]) {
-    let mut i = 0;
-    while i < n {
-        fill_one(input, i, args);
-        i += 1;
-    }
-}
-
-fn pair(b0: u8, b1: u8) -> usize {
-    (b0 as usize) + 256 * (b1 as usize)
-}
-
-fn word(b0: u8, b1: u8, b2: u8, b3: u8) -> u32 {
-    (b0 as u32) + 256 * (b1 as u32) + 65536 * (b2 as u32) + 16777216 * (b3 as u32)
-}
-
-// How many words are lent.
-fn lent(depth: usize, delta: u8) -> usize {
-    if depth < 400 {
-        let want = 48 * depth + (delta as usize);
-        if want < 128 {
-            return 0;
-        }
-        return want - 128;
-    }
-    20000
-}
-
-fn run_on(
-    input: &[u8],
-    file: &[u8],
-    args: &mut [i32],
-    n: usize,
-    depth: usize,
-    budget: u32,
-    words: &mut [i32],
-    many: usize,
-) {
-    fill(input, n, args);
-    if args.len() < n {
-        return;
-    }
-    if words.len() < many {
-        return;
-    }
+fn run_on(given: &[u8], file: &[u8], depth: usize, budget: u32, delta: u8) {
+    let mut args = [0i32; 256];
+    let n = arguments(given, &mut args);
+    let mut space = [UNTOUCHED; 13000];
+    let words: &mut [i32] = &mut space;
+    let many = lent(words, depth, delta);
     let a = run(file, &args[..n], depth, budget, &mut words[..many]);
     print_answer(a, words, depth);
 }
 
+// The input of a record.
 fn run_case(input: &[u8], delta: u8) {
     if input.len() < 1 {
         return;
     }
-    let n = input[0] as usize;
-    let head = 1 + 4 * n;
-    if input.len() < head + 6 {
+    let at = argument_bytes(byte_at(input, 0)) + 1;
+    let past = at + 6;
+    if input.len() < past {
         say(b"no header\n");
         return;
     }
-    let mut args = [0i32; 256];
-    let depth = pair(input[head], input[head + 1]);
+    let depth = pair(byte_at(input, at), byte_at(input, at + 1));
     let budget = word(
-        input[head + 2],
-        input[head + 3],
-        input[head + 4],
-        input[head + 5],
+        byte_at(input, at + 2),
+        byte_at(input, at + 3),
+        byte_at(input, at + 4),
+        byte_at(input, at + 5),
     );
-    let mut words = [7i32; 20000];
-    let many = lent(depth, delta);
-    let from = head + 6;
-    run_on(
-        input,
-        &input[from..],
-        &mut args,
-        n,
-        depth,
-        budget,
-        &mut words,
-        many,
-    );
-}
-
-// The input of a record; false where it ends early.
-fn run_file(buffer: &mut [u8], n: usize, delta: u8) -> bool {
-    if buffer.len() < n {
-        return false;
-    }
-    let got = io::read_full(STDIN_FILENO, &mut buffer[..n]);
-    if got < n {
-        return false;
-    }
-    run_case(&buffer[..n], delta);
-    true
+    run_on(&input[1..at], &input[past..], depth, budget, delta);
 }
 
 // One record; false at the end of the input.
-fn run_record(buffer: &mut [u8]) -> bool {
+fn run_record() -> bool {
     let mut head = [0u8; 3];
-    let got = io::read_full(STDIN_FILENO, &mut head);
-    if got < 3 {
+    if !read_whole(&mut head) {
         return false;
     }
-    run_file(buffer, pair(head[1], head[2]), head[0])
+    let size = pair(head[1], head[2]);
+    let mut buffer = io::large_buffer();
+    let got = read_part(&mut buffer, size);
+    if got < size {
+        return false;
+    }
+    run_case(&buffer[..got], head[0]);
+    true
 }
 
 fn main() {
-    let mut space = io::large_buffer();
-    let buffer: &mut [u8] = &mut space;
     let mut turns: usize = 100000;
-    while turns > 0 && run_record(buffer) {
+    while turns > 0 && run_record() {
         turns -= 1;
     }
 }

@@ -4,43 +4,10 @@ use Rattle.translator_cases.proofs.main.Statement.{statement}
 use Rattle.translator_cases.proofs.main.Tie as tie
 
 abbrev Inv-loop : tie.InvT-loop
-Inv-loop files₀ outs₀ turns₀ files outs turns = Unit {0}
+Inv-loop outs₀ turns₀ outs turns = Unit {0}
 
 abbrev μ-loop : tie.MeasureT-loop
-μ-loop files₀ outs₀ turns₀ files outs turns = turns
-
-large-buffer-requires : tie.Need-large-buffer-requires Inv-loop μ-loop
-large-buffer-requires c κs = search needs
-
-slice-aggregate-files : tie.Need-slice-aggregate-files Inv-loop μ-loop
-slice-aggregate-files c = search needs
-
-large-buffer-requires-2 : tie.Need-large-buffer-requires-2 Inv-loop μ-loop
-large-buffer-requires-2 c κs = search needs
-
-slice-aggregate-outs : tie.Need-slice-aggregate-outs Inv-loop μ-loop
-slice-aggregate-outs c = search needs
-
-loop-holds : tie.Need-loop-holds Inv-loop μ-loop
-loop-holds c = search needs
-
-run-record-requires : tie.Need-run-record-requires Inv-loop μ-loop
-run-record-requires c κs = search needs
-
-sub-turns : tie.Need-sub-turns Inv-loop μ-loop
-sub-turns c = search needs
-
-loop-less : tie.Need-loop-less Inv-loop μ-loop
-loop-less c = search needs
-
-loop-again : tie.Need-loop-again Inv-loop μ-loop
-loop-again c = search needs
-
-returns : tie.Need-returns Inv-loop μ-loop
-returns c = search needs
-
-returns-2 : tie.Need-returns-2 Inv-loop μ-loop
-returns-2 c = search needs
+μ-loop outs₀ turns₀ outs turns = turns
 
 pub main-spec : {M : Type 1} → statement M
 main-spec =
@@ -48,14 +15,12 @@ main-spec =
     (tie.spec
     Inv-loop
     μ-loop
-    large-buffer-requires
-    slice-aggregate-files
-    large-buffer-requires-2
-    slice-aggregate-outs
-    loop-holds
-    run-record-requires
-    sub-turns
-    loop-less
-    loop-again
-    returns
-    returns-2)
+    (λ c κs. search needs)
+    (λ c. search needs)
+    (λ c. tt)
+    (λ c κs. search needs)
+    (λ c. search needs)
+    (λ c. search needs)
+    (λ c. tt)
+    (λ c. search needs)
+    (λ c. search needs))

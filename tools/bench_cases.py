@@ -1,0 +1,65 @@
+#!/usr/bin/env python3
+"""Writes the cases of crates/bench_cases and the answers expected: run in the repository's root. Needs ../shared/vectors/both.txt.
+
+The answers come from tools/procedure.py, and from the words of a frame in docs/FRAMES.md. Where a vector gives the bench's run, the model
+must give the same.
+"""
+from procedure import Bench, T, check
+from records import Refused, agree, header, judge_call, little, vectors, write
+
+
+def field(data, at, size, signed=False):
+    return int.from_bytes(data[at:at + size], "little", signed=signed)
+
+
+def expected(delta, data):
+    count = data[0]
+    at = 4 * count + 1
+    if len(data) < at + 6:
+        return "no header"
+    arguments = [field(data, i, 4, True) for i in range(1, at, 4)]
+    depth, budget, file = field(data, at, 2), field(data, at + 2, 4), data[at + 6:]
+    try:
+        functions = check(file)
+        judge_call(count, functions[0].parameters, depth, delta)
+    except Refused as r:
+        return f"{r} kept"
+    bench = Bench(file, functions, arguments)
+    stop = bench.run(depth, budget)
+    frames = "".join(" %d %d %d %d" % frame[:4] for frame in bench.frames)
+    return f"{stop} steps {bench.steps} extras {bench.extras} frames{frames} cleared kept"
+
+
+cases = []
+
+
+def add(file, arguments, depth, budget, delta=140):
+    cases.append((delta, header(arguments, depth, budget) + file))
+
+
+# Document 01's cases of T, and two with a frame waiting.
+for argument, depth, budget in ((5, 256, 100), (0, 256, 100), (5, 0, 100), (5, 256, 0), (5, 256, 4), (5, 256, 5), (5, 1, 2), (5, 1, 3)):
+    add(T, [argument], depth, budget)
+# The caller's refusals: argument counts, depth, one word too few, none too few; no words for no frames.
+add(T, [1, 2], 256, 100)
+add(T, [], 256, 100)
+add(T, [5], 257, 100)
+for depth, delta in ((256, 127), (256, 128), (0, 128)):
+    add(T, [5], depth, 100, delta)
+add(T, [5], 0, 100, 0)
+# 14 before 16, and the file's refusals before both.
+add(T, [5, 6], 300, 100, 0)
+add(b"", [5], 256, 100)
+add(b"SPG", [5, 6], 300, 100)
+
+# The vectors of `both` of at most 400 bytes, but for the empty input, which has no line here. The longer ones are above the file limit of
+# `both`, which the bench does not have, or refused for their depth as shorter ones are.
+for data, text in vectors("both.txt"):
+    if not 1 <= len(data) <= 400:
+        continue
+    cases.append((140, data))
+    given = next((line[6:] for line in text.split(" | ") if line.startswith("bench ")), text)
+    agree(data, given, expected(*cases[-1]).split(" extras")[0].removesuffix(" kept"))
+
+write("bench_cases", (bytes([delta]) + little(len(data), 2) + data for delta, data in cases), (expected(*case) + "\n" for case in cases))
+print(len(cases), "cases")

@@ -1,0 +1,87 @@
+"""What the generators share: vectors, fields of several bytes, and the stored records and answers.
+
+A generator runs in the repository's root. It needs nothing outside the repository but ../shared.
+"""
+import os
+import sys
+
+LEAST, GREATEST = -2 ** 31, 2 ** 31 - 1
+
+
+class Refused(Exception):
+    """A refusal of document 01: its number and its place."""
+
+    def __str__(self):
+        return "refused %d at %d" % self.args
+
+
+def shared(*names):
+    """The path of a file in ../shared."""
+    path = os.path.join("..", "shared", *names)
+    if not os.path.exists(path):
+        sys.exit(f"{path} is missing: run in the repository's root, beside the folder `shared`")
+    return path
+
+
+def vectors(name):
+    """The lines of a file of vectors, each as its fields: the first is hexadecimal and given as bytes."""
+    for line in open(shared("vectors", name)):
+        line = line.split("#")[0].strip()
+        if line:
+            first, *others = [field.strip() for field in line.split(":")]
+            yield bytes.fromhex(first), *others
+
+
+def little(n, size):
+    """A field of so many bytes, the low byte first."""
+    return n.to_bytes(size, "little")
+
+
+def signed(values):
+    """Signed values of 4 bytes each."""
+    return b"".join(little(v % 2 ** 32, 4) for v in values)
+
+
+def header(arguments, depth, budget):
+    """The first four fields of an input of `both`."""
+    return bytes([len(arguments)]) + signed(arguments) + little(depth, 2) + little(budget, 4)
+
+
+def wrapped(z):
+    """A value outside the range, wrapped back into it."""
+    return (z - LEAST) % 2 ** 32 + LEAST
+
+
+def judge_call(given, wanted, depth, delta):
+    """The refusals of a machine's call: 14, then 16. `delta` less 128 is how many words are lent beyond 48 a frame of the depth."""
+    if given != wanted:
+        raise Refused(14, 0)
+    if depth > 256 or max(0, 48 * depth + delta - 128) < 48 * depth:
+        raise Refused(16, 0)
+
+
+def agree(data, given, ours):
+    """Ends the program where a vector gives another answer than the model."""
+    if given != ours:
+        sys.exit(f"the vectors and the model differ at {data.hex()}: {given} | {ours}")
+
+
+def write(crate, records, answers):
+    """Stores a program's input and the text that it is to print."""
+    with open(os.path.join("crates", crate, "stdin"), "wb") as f:
+        f.write(b"".join(records))
+    with open(os.path.join("crates", crate, "stdout"), "w") as f:
+        f.write("".join(answers))
+
+
+# Operations 1 to 3 have one form in both kinds of file; x, y and z are variables in the one, slots in the other.
+def constant(x, value):
+    return bytes([1, x]) + signed([value])
+
+
+def duplicate(x, y):
+    return bytes([2, x, y])
+
+
+def difference(x, y, z):
+    return bytes([3, x, y, z])

@@ -1,0 +1,66 @@
+#!/usr/bin/env python3
+"""Writes the cases of crates/translator_cases and the answers expected: run in the repository's root. Needs
+../shared/vectors/translation.txt.
+
+The answers come from tools/procedure.py. Where a vector gives the translation, the model must give the same.
+"""
+from procedure import LIMIT, Function, T, call, difference, duplicate, goto, throw, translation, written
+from records import Refused, agree, little, vectors, write
+
+cases = []
+
+
+def add(file, room):
+    cases.append((file, room))
+
+
+for file, given in vectors("translation.txt"):
+    agree(file, given, translation(file).hex())
+    add(file, len(given) // 2)
+
+# Room for the translation of T exactly, one byte too few, none, and more: what stands behind the translation is kept.
+for room in (106, 105, 0, 300):
+    add(T, room)
+
+
+# A file whose translation has so many bytes: a block of calls, which grow most, filled up by copies and differences.
+def filled(length):
+    def made(copies, differences):
+        block = [call(0, 1, [])] * 1255 + [duplicate(0, 1)] * copies + [difference(0, 1, 2)] * differences + [throw]
+        return written(Function(8, 24, [goto(1)], (1, block)), Function(0, 0, [throw]))
+
+    left = length - len(translation(made(0, 0)))
+    differences = next(n for n in range(left) if (left - 4 * n) % 3 == 0)
+    return made((left - 4 * differences) // 3, differences)
+
+
+# A translation of 65,535 bytes is the longest: 16 for one byte of room too few. One byte more is refused with 17, whatever the room.
+add(filled(65535), 65534)
+add(filled(65535), 65535)
+add(filled(65536), 65536)
+add(filled(65536), 10)
+
+# Files that the checker refuses: the output is kept.
+add(b"", 50)
+for file in (T[:-1], T + b"\0", T[:11] + b"\3" + T[12:]):
+    add(file, 200)
+add(bytes(LIMIT + 1), 20)
+
+# One output, of 65,536 bytes, of which each case lends the front.
+out = bytearray(65536)
+answers = []
+for file, room in cases:
+    try:
+        made = translation(file)
+        if len(made) > 65535:
+            raise Refused(17, 0)
+        if len(made) > room:
+            raise Refused(16, 0)
+        out[:len(made)] = made
+        answer = f"written {len(made)}"
+    except Refused as r:
+        answer = str(r)
+    answers.append(f"{answer}\n{out[:room].hex()}\n")
+
+write("translator_cases", (little(len(file), 3) + little(room, 3) + file for file, room in cases), answers)
+print(len(cases), "cases")
