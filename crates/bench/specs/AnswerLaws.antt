@@ -14,14 +14,12 @@ use Rattle.parsing.specs.Parser.{Verdict, accepted, refused, verdictOf, orElse}
 use Rattle.memory.specs.Call.{callVerdict}
 use Rattle.memory.specs.CallLaws.{accepted-fits}
 use Rattle.procedure_file.specs.Check.{checkOf, programOf}
-use Rattle.procedure_file.specs.MachineTables.{LoadedOr}
-use Rattle.procedure_file.specs.MachineTables as File
+use Rattle.procedure_file.specs.Loaded.{Loaded, LoadedOr}
 use Rattle.procedure_file.specs.FileInvariantLaws.{invariant}
 use Rattle.bench.specs.declared.machine.Answer.{Answer}
 use Rattle.bench_step.specs.MachineTables.{functionAt, MachineTables}
 use Rattle.bench_step.specs.StandsLaws.{loaded}
-use Rattle.bench.specs.Published.{Tells, refuses, tells, saidOf, toldBy, benchVerdict, tellsBy, benchTells, WordsBy, BenchWords}
-use Rattle.bench.specs.StartLaws.{CallFits, RunAnswered}
+use Rattle.bench.specs.Published.{CallFits, RunAnswered, Tells, refuses, tells, saidOf, toldBy, benchVerdict, tellsBy, benchTells, WordsBy, BenchWords}
 
 -- The two promises of the call.
 abbrev pub Answered : List ℕ → List ℤ → ℕ → ℕ → Answer → List ℤ → List ℤ → Type 0
@@ -46,7 +44,7 @@ module _ (s starts handlers params locals blocks starts′ handlers′ params′
   accepted-is : checkOf s ≡ accepted
   accepted-is = sym e ∙ ap verdictOf q
 
-  given : File.MachineTables s starts′ handlers′ params′ locals′ blocks′
+  given : Loaded s starts′ handlers′ params′ locals′ blocks′
   given = subst (λ (x : Verdict). LoadedOr x s starts handlers params locals blocks starts′ handlers′ params′ locals′ blocks′) accepted-is l
 
   pub tables : MachineTables s starts′ handlers′ params′ locals′

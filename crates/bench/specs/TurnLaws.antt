@@ -27,7 +27,7 @@ use Rattle.bench_step.specs.Machine.{stateOf, Invariant, StepResult}
 use Rattle.bench.specs.RunResult.{RunResult}
 
 -- No function has more than 24 locals; one that is not there has none.
-locals-stepBound : {s starts handlers params locals : List ℕ} → MachineTables s starts handlers params locals → (g : ℕ) → functionAt s g .locals ≤ 24
+locals-bound : {s starts handlers params locals : List ℕ} → MachineTables s starts handlers params locals → (g : ℕ) → functionAt s g .locals ≤ 24
 locals-bound {s} L g = by (ltb g (length (programOf s))) refl
   where
     by : (c : Bool) → ltb g (length (programOf s)) ≡ c → functionAt s g .locals ≤ 24
@@ -168,7 +168,7 @@ module _ {s starts handlers params locals : List ℕ} (L : MachineTables s start
       }
 
 -- The same, with the steps left counted down.
-pub down-stepBound : {b left : ℕ} → left ≤ b → 0 < left → b - left < b
+pub down-bound : {b left : ℕ} → left ≤ b → 0 < left → b - left < b
 down-bound h k = omega arith
 
 module _ {s : List ℕ} {limit b : ℕ} {r₀ : Regs} {vs₀ words₀ : List ℤ} {r : Regs} {vs words : List ℤ} where

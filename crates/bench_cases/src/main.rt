@@ -8,10 +8,8 @@ use bench::machine::run;
 use case_io::input::argument_bytes;
 use case_io::input::arguments;
 use case_io::input::byte_at;
-use case_io::input::pair;
 use case_io::input::read_part;
 use case_io::input::read_whole;
-use case_io::input::word;
 use case_io::print::numbered;
 use case_io::print::say;
 use case_io::print::value;
@@ -20,6 +18,8 @@ use case_io::words::lent;
 use case_io::words::print_frames;
 use case_io::words::print_refused;
 use case_io::words::print_rest;
+use casts::pair;
+use casts::word;
 use parsing::Checked;
 
 // How the run stopped; the answer is how many frames are in use then.

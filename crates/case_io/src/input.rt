@@ -32,34 +32,6 @@ pub fn byte_at(bytes: &[u8], at: usize) -> u8
     0
 }
 
-// A field of two bytes.
-pub fn pair(b0: u8, b1: u8) -> usize
-    ensures { λ r. ⌜ r ≡ b0 + 256 * b1 ⌝ }
-{
-    (b0 as usize) + 256 * (b1 as usize)
-}
-
-// A field of three bytes.
-pub fn triple(b0: u8, b1: u8, b2: u8) -> usize
-    ensures { λ r. ⌜ r ≡ b0 + 256 * b1 + 65536 * b2 ⌝ }
-{
-    pair(b0, b1) + 65536 * (b2 as usize)
-}
-
-// A field of four bytes.
-pub fn word(b0: u8, b1: u8, b2: u8, b3: u8) -> u32
-    ensures { λ r. ⌜ r ≡ b0 + 256 * b1 + 65536 * b2 + 16777216 * b3 ⌝ }
-{
-    (b0 as u32) + 256 * (b1 as u32) + 65536 * (b2 as u32) + 16777216 * (b3 as u32)
-}
-
-// A field of eight bytes, by its two halves.
-pub fn double_word(low: u32, high: u32) -> u64
-    ensures { λ r. ⌜ r ≡ low + 4294967296 * high ⌝ }
-{
-    (low as u64) + 4294967296 * (high as u64)
-}
-
 // The less of two numbers.
 pub fn least(a: usize, b: usize) -> usize
     ensures { λ r. ⌜ r ≡ min a b ⌝ }

@@ -5,12 +5,8 @@
 // byte first.
 use case_io::input::argument_bytes;
 use case_io::input::arguments;
-use case_io::input::double_word;
-use case_io::input::pair;
 use case_io::input::read_part;
 use case_io::input::read_whole;
-use case_io::input::triple;
-use case_io::input::word;
 use case_io::print::numbered;
 use case_io::print::say;
 use case_io::print::value;
@@ -19,6 +15,10 @@ use case_io::words::lent;
 use case_io::words::print_frames;
 use case_io::words::print_refused;
 use case_io::words::print_rest;
+use casts::double_word;
+use casts::pair;
+use casts::triple;
+use casts::word;
 use controller::machine::Answer;
 use controller::machine::Stopped;
 use controller::machine::run;

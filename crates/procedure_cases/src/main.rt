@@ -2,10 +2,10 @@
 // A record is a kind (0 check, 1 lookup), a function number, a label, the file's length (3 bytes, the low byte first), and the file.
 use case_io::input::read_part;
 use case_io::input::read_whole;
-use case_io::input::triple;
 use case_io::print::bytes;
 use case_io::print::say;
 use case_io::print::verdict;
+use casts::triple;
 
 fn print_case(file: &[u8], kind: u8, f: u8, label: u8) {
     if kind == 0 {

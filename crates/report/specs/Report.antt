@@ -11,10 +11,10 @@ use Rattle.translator.specs.Translated.{Outcome, written, turnedDown, answerOf}
 use Rattle.agreement.specs.Sides.{Tells, refuses, tells, sidesTell}
 
 -- A field of 16 bits, and one of 32, the low byte first.
-unfoldable pub pairOf : ℕ → ℕ → ℕ
+abbrev pub pairOf : ℕ → ℕ → ℕ
 pairOf b0 b1 = b0 + 256 * b1
 
-unfoldable pub wordOf : ℕ → ℕ → ℕ → ℕ → ℕ
+abbrev pub wordOf : ℕ → ℕ → ℕ → ℕ → ℕ
 wordOf b0 b1 b2 b3 = b0 + 256 * b1 + 65536 * b2 + 16777216 * b3
 
 -- "Program `both` reads argument count (1 byte), arguments (4 each), depth (2), budget (4), then a procedure file."

@@ -1,6 +1,8 @@
 // What program `both` prints for an input.
 use agreement::Sides;
 use agreement::side_by_side;
+use casts::pair;
+use casts::word;
 use parsing::Checked;
 use parsing::Refusal;
 use text::Stopped;
@@ -17,21 +19,7 @@ ghost use Rattle.text.specs.WroteText.{WroteText};
 ghost use Rattle.bench.specs.Published as Bench;
 ghost use Rattle.controller.specs.Published as Controller;
 ghost use Rattle.agreement.specs.Sides.{sidesTold};
-ghost use Rattle.report.specs.Report.{pairOf, wordOf, argumentAt, argumentsOf, sidesText, fileText, textOf};
-
-// A field of 16 bits, the low byte first.
-fn pair(b0: u8, b1: u8) -> usize
-    ensures { λ r. ⌜ r ≡ pairOf b0 b1 ⌝ }
-{
-    (b0 as usize) + 256 * (b1 as usize)
-}
-
-// A field of 32 bits, the low byte first.
-fn word(b0: u8, b1: u8, b2: u8, b3: u8) -> u32
-    ensures { λ r. ⌜ r ≡ wordOf b0 b1 b2 b3 ⌝ }
-{
-    (b0 as u32) + 256 * (b1 as u32) + 65536 * (b2 as u32) + 16777216 * (b3 as u32)
-}
+ghost use Rattle.report.specs.Report.{argumentAt, argumentsOf, sidesText, fileText, textOf};
 
 // Argument i of the input.
 fn argument(input: &[u8], i: usize) -> i32

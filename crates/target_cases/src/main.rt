@@ -2,9 +2,9 @@
 // A record is the file's length (3 bytes, the low byte first) and the file.
 use case_io::input::read_part;
 use case_io::input::read_whole;
-use case_io::input::triple;
 use case_io::print::say;
 use case_io::print::verdict;
+use casts::triple;
 
 // One record; false at the end of the input.
 fn run_record() -> bool {

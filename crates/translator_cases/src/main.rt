@@ -4,11 +4,11 @@
 use case_io::input::read_part;
 use case_io::input::read_whole;
 use case_io::input::room;
-use case_io::input::triple;
 use case_io::print::bytes;
 use case_io::print::numbered;
 use case_io::print::refusal;
 use case_io::print::say;
+use casts::triple;
 use translator::Translated;
 
 fn run_case(file: &[u8], out: &mut [u8]) {

@@ -9,8 +9,6 @@ use Rattle.report.proofs.report.Tie as tie
 use Rattle.report.proofs.report.Reads as reads
 use Rattle.report.proofs.report.Lts as lts
 use Rattle.report.proofs.fill.Reads as fill-reads
-use Rattle.report.proofs.pair.Reads as pair-reads
-use Rattle.report.proofs.word.Reads as word-reads
 use Rattle.report.proofs.write_file.Reads as write-file-reads
 use Rattle.text.proofs.write_no_header.Reads as write-no-header-reads
 

@@ -1,5 +1,5 @@
 -- `translator::sizes::block_size` meets its contract.
-use Rattle.translator.specs.BlockLaws.{Counting, count-none, count-asks, count-low, count-next, count-moves, count-done, count-never}
+use Rattle.translator.specs.BlockLaws.{Counting, count-none, count-asks, count-bound, count-next, count-moves, count-done, count-never}
 use lib.ListN.{length}
 use Prim.Native.Nat.{_-_}
 use native.Mathlib.Omega.{arith}
@@ -29,7 +29,7 @@ operation-size-requires : tie.Need-operation-size-requires Inv-loop μ-loop
 operation-size-requires c κs = count-asks (c .before .loop .inv) (c .operation-at .ensures)
 
 add-n : tie.Need-add-n Inv-loop μ-loop
-add-n c = omega (arith, count-low (c .before .before .loop .inv) (c .before .operation-at .ensures), c .operation-size .ensures .1)
+add-n c = omega (arith, count-bound (c .before .before .loop .inv) (c .before .operation-at .ensures), c .operation-size .ensures .1)
 
 after-of-requires : tie.Need-after-of-requires Inv-loop μ-loop
 after-of-requires c κs = search needs
