@@ -88,5 +88,5 @@ table =
     ∷ []
 
 pub cases : All Holds table
-unfolding sidesTell controllerBudget sidesVerdict judgedCall wordsVerdict mainVerdict translationOf checkOf programOf Layout.program Layout.function Layout.heading Layout.labelled Layout.block Layout.walk Operation.operationAt Operation.constantAt Operation.copyAt Operation.differenceAt Operation.callAt Operation.gotoAt Operation.returnAt Operation.branchAt Operation.endAt Fields.version Fields.count Fields.ended Fields.valueOf Names.namesOf Writing.writing Target.codeOf TargetLayout.code TargetLayout.functions TargetLayout.function TargetLayout.expression TargetLayout.pair Tag.tagAt Tag.constantAt Tag.copyAt Tag.differenceAt Tag.jumpAt Tag.resumeAt Tag.handleAt Tag.branchAt Tag.continuationAt Tag.bothAt TagNames.judged wrapped minus atMost step bench code translate controlStep controller extras
+unfolding sidesTell controllerBudget sidesVerdict judgedCall wordsVerdict mainVerdict translationOf checkOf programOf Layout.program Layout.function Layout.heading Layout.labelled Layout.block Layout.walk Operation.operationAt Operation.constantAt Operation.copyAt Operation.differenceAt Operation.callAt Operation.gotoAt Operation.returnAt Operation.branchAt Operation.endAt Fields.version Fields.count Fields.ended Fields.valueOf Names.namesOf Writing.writing Target.codeOf TargetLayout.code TargetLayout.functions TargetLayout.function TargetLayout.expression TargetLayout.pair Tag.tagAt Tag.constantAt Tag.copyAt Tag.differenceAt Tag.jumpAt Tag.resumeAt Tag.handleAt Tag.branchAt Tag.continuationAt Tag.continuationWithHandlerAt TagNames.judged wrapped minus atMost step bench code translate controlStep controller extras
 cases = ((_, refl), ((_, refl), ((_, refl), ((_, refl), ((_, refl), ((_, refl), (refl, (refl, (refl, (refl, (refl, (refl, (refl, ((_, refl), ((_, refl), tt)))))))))))))))

@@ -26,36 +26,36 @@ read-front r n d e k h q =
 -- After i of n arguments.
 pub record Taking (s : List ℕ) (a : List ℤ) (n i : ℕ) (a′ : List ℤ) : Type 0 where
   pub many : n ≡ min (length s / 4) (length a)
-  pub few : i ≤ n
+  pub counterBound : i ≤ n
   pub values : take i a′ ≡ valuesOf s i
   pub rest : drop i a′ ≡ drop i a
-  pub long : length a′ ≡ length a
+  pub sameLength : length a′ ≡ length a
 
 pub taking-none : (s : List ℕ) (a : List ℤ) (n : ℕ) → n ≡ min (length s / 4) (length a) → Taking s a n 0 a
-taking-none s a n m = record { many = m; few = omega arith; values = refl; rest = refl; long = refl }
+taking-none s a n m = record { many = m; counterBound = omega arith; values = refl; rest = refl; sameLength = refl }
 
 pub taking-more : {s : List ℕ} {a : List ℤ} {n i : ℕ} {a′ : List ℤ} {v w : ℤ} → Taking s a n i a′ → i < n → v ≡ valueAt s i → w ≡ v → Taking s a n (i + 1) (set a′ i w)
 taking-more {s} {a} {n} {i} {a′} {v} {w} F h e q =
     let m : n ≡ min (length s / 4) (length a) = F .many in
-    let k : length a′ ≡ length a = F .long in
+    let k : length a′ ≡ length a = F .sameLength in
     let j : i + 1 ≡ suc i = omega arith in
     record {
       many = m;
-      few = omega arith;
+      counterBound = omega arith;
       values =
           ap (λ (k : ℕ). take k (set a′ i w)) j
           ∙ (take-suc-set a′ i w (omega arith)
           ∙ (ap (λ (x : List ℤ). x ++ (w ∷ [])) (F .values)
           ∙ (ap (λ (x : ℤ). valuesOf s i ++ (x ∷ [])) (q ∙ e) ∙ ap (λ (k : ℕ). valuesOf s k) (sym j))));
       rest = drop-set-lt (i + 1) a′ i w (omega arith) ∙ (sym (drop-drop 1 i a′) ∙ (ap (drop 1) (F .rest) ∙ drop-drop 1 i a));
-      long = length-set a′ i w ∙ F .long;
+      sameLength = length-set a′ i w ∙ F .sameLength;
     }
 
 pub taking-all : {s : List ℕ} {a : List ℤ} {n i : ℕ} {a′ : List ℤ} → Taking s a n i a′ → n ≤ i → Front n a′ × Taken s a n a′
 taking-all {s} {a} {n} {i} {a′} F h =
     let m : n ≡ min (length s / 4) (length a) = F .many in
-    let k : i ≤ n = F .few in
-    let l : length a′ ≡ length a = F .long in
+    let k : i ≤ n = F .counterBound in
+    let l : length a′ ≡ length a = F .sameLength in
     let e : i ≡ n = omega arith in (
       front n a′ (omega arith),
       record {

@@ -1,4 +1,5 @@
 // Answers on standard output. Nothing can be said of what is printed.
+use casts::byte_count;
 use libc::STDOUT_FILENO;
 use parsing::Checked;
 use parsing::Refusal;
@@ -27,7 +28,7 @@ pub fn value(z: i32) {
     } else {
         say(b" ");
     }
-    io::print_decimal(STDOUT_FILENO, text::magnitude(z));
+    io::print_decimal(STDOUT_FILENO, decimal::magnitude(z));
 }
 
 // A refusal: its number and its place.
@@ -48,15 +49,11 @@ pub fn verdict(c: Checked) {
     }
 }
 
-fn wide(b: u8) -> u64 {
-    b as u64
-}
-
 // Bytes: two hexadecimal digits each, or in decimal, each behind a space.
 pub fn bytes(part: &[u8], hexadecimal: bool) {
     let mut i = 0;
     while i < part.len() {
-        let b = wide(part[i]);
+        let b = byte_count(part[i]);
         if hexadecimal {
             io::print_hex(STDOUT_FILENO, b, 2);
         } else {

@@ -1,3 +1,4 @@
--- Definitions: Number. Laws: FieldsLaws.
+-- The fields of an operation for a machine. Definitions: the number of an operation.
 pub mod Number
+-- Laws.
 pub mod FieldsLaws

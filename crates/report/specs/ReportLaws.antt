@@ -16,7 +16,7 @@ use Rattle.parsing.specs.declared.Checked.the-variants.{Accepted, Refused}
 use Rattle.semantics.specs.Run.{Stop}
 use Rattle.text.specs.declared.Stopped.{Stopped}
 use Rattle.memory.specs.LayLaws.{length-lay}
-use Rattle.text.specs.WroteText.{WroteText}
+use Rattle.decimal.specs.WroteText.{WroteText}
 use Rattle.text.specs.Text.{bothText, refusedText, noHeaderText, stoppedAs}
 use Rattle.translator.specs.declared.Translated.{Translated}
 use Rattle.translator.specs.declared.Translated.the-variants as Translator

@@ -15,7 +15,7 @@ ghost use mathlib.Core.Path.{_≡_};
 ghost use Prim.Native.Nat.{_+_, _*_, _≤_, _<_};
 ghost use lib.ListN.{length, take};
 ghost use Rattle.text.specs.Text.{stoppedAs, refusedText};
-ghost use Rattle.text.specs.WroteText.{WroteText};
+ghost use Rattle.decimal.specs.WroteText.{WroteText};
 ghost use Rattle.bench.specs.Published as Bench;
 ghost use Rattle.controller.specs.Published as Controller;
 ghost use Rattle.agreement.specs.Sides.{sidesTold};

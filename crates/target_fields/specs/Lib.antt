@@ -1,5 +1,4 @@
--- Definitions: Number, RecordParts. Laws: FieldsLaws, RecordPartsLaws.
+-- The fields of a node for a machine. Definitions: the number of a node.
 pub mod Number
-pub mod RecordParts
+-- Laws.
 pub mod FieldsLaws
-pub mod RecordPartsLaws

@@ -1,7 +1,5 @@
--- The lines that program `both` prints. Definitions: Text, WroteText. Computed: Cases.
+-- The lines that program `both` prints. Definitions: Text. Computed: Cases.
 pub mod Text
-pub mod WroteText
 pub mod Cases
 -- Laws.
 pub mod TextLaws
-pub mod SizeLaws

@@ -1,30 +1,10 @@
 -- The lines that program `both` prints (document 01, 'The test procedure and its neighbours'), as bytes.
-use Prim.Native.Nat.{ℕ, zero, suc, _+_, _/_, _%_}
-use mathlib.Core.Bool.{cond}
+use Prim.Native.Nat.{ℕ}
 use mathlib.Core.List.{List, [], _∷_, _++_}
-use lib.Dec.{ltb}
-use lib.IntN.{ℤ, pos, negsuc}
 use Rattle.semantics.specs.Run.{value, uncaught, Stop, ended, spent, deep, broken}
+use Rattle.decimal.specs.Decimal.{signed, numbered}
 use Rattle.text.specs.declared.Stopped.{Stopped}
 use Rattle.text.specs.declared.Stopped.the-variants.{Value, Uncaught, Spent, Deep}
-
--- The decimal digits of n, at most k and one more; 48 is `0`.
-unfoldable pub digits : ℕ → ℕ → List ℕ
-digits zero n = (48 + n % 10) ∷ []
-digits (suc k) n = cond (ltb n 10) ((48 + n) ∷ []) (digits k (n / 10) ++ ((48 + n % 10) ∷ []))
-
--- A number in decimal. A 64-bit number has at most 20 digits.
-unfoldable pub decimal : ℕ → List ℕ
-decimal n = digits 19 n
-
--- A value in decimal, `-` (45) before a negative one.
-unfoldable pub signed : ℤ → List ℕ
-signed (pos n) = decimal n
-signed (negsuc n) = 45 ∷ decimal (suc n)
-
--- A word and a number behind it.
-unfoldable pub numbered : List ℕ → ℕ → List ℕ
-numbered word n = word ++ decimal n
 
 -- `value `
 abbrev pub valueWord : List ℕ

@@ -2,7 +2,7 @@
 use mathlib.Core.Path.{_≡_, sym, subst}
 use mathlib.Core.List.{List}
 use Prim.Native.Nat.{ℕ}
-use Rattle.text.specs.WroteText.{WroteText}
+use Rattle.decimal.specs.WroteText.{WroteText}
 use Rattle.report.specs.ReportLaws.{told-refused, told-both, wrote-as}
 use borrow.Author.Needs.{needs}
 use Rattle.report.proofs.write_sides.Statement.{statement}

@@ -1,6 +1,7 @@
 -- `text::put_machine` meets its contract: five texts, one behind the other.
 use native.Mathlib.Omega.{arith}
-use Rattle.text.specs.TextLaws.{wrote-then, wrote-room, length-stop, length-numbered}
+use Rattle.decimal.specs.DecimalLaws.{wrote-then, wrote-room, length-numbered}
+use Rattle.text.specs.TextLaws.{length-stop}
 use Rattle.text.specs.Text.{machineLine}
 use borrow.Author.Needs.{needs}
 use Rattle.text.proofs.put_machine.Statement.{statement}

@@ -2,7 +2,8 @@
 use mir.Facts.{toZ-ofZ}
 use mir.Syntax.{w32}
 use mir.Val.{SFits}
-use Rattle.text.specs.TextLaws.{wrote-as, wrote-then, ended-value, ended-uncaught, ended-spent, ended-deep}
+use Rattle.decimal.specs.DecimalLaws.{wrote-as, wrote-then}
+use Rattle.text.specs.TextLaws.{ended-value, ended-uncaught, ended-spent, ended-deep}
 use borrow.Author.Needs.{needs}
 use Rattle.text.proofs.put_stopped.Statement.{statement}
 use Rattle.text.proofs.put_stopped.Tie as tie

@@ -1,6 +1,6 @@
 -- `text::put_target` meets its contract: two texts.
 use native.Mathlib.Omega.{arith}
-use Rattle.text.specs.TextLaws.{wrote-then, wrote-room, length-numbered}
+use Rattle.decimal.specs.DecimalLaws.{wrote-then, wrote-room, length-numbered}
 use Rattle.text.specs.Text.{targetLine}
 use borrow.Author.Needs.{needs}
 use Rattle.text.proofs.put_target.Statement.{statement}

@@ -1,6 +1,7 @@
 -- `text::write_both` meets its contract: three lines.
 use native.Mathlib.Omega.{arith}
-use Rattle.text.specs.TextLaws.{wrote-then, wrote-room, length-target, length-machine}
+use Rattle.decimal.specs.DecimalLaws.{wrote-then, wrote-room}
+use Rattle.text.specs.TextLaws.{length-target, length-machine}
 use Rattle.text.specs.Text.{bothText}
 use borrow.Author.Needs.{needs}
 use Rattle.text.proofs.write_both.Statement.{statement}

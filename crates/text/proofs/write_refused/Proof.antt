@@ -1,6 +1,6 @@
 -- `text::write_refused` meets its contract: three texts.
 use native.Mathlib.Omega.{arith}
-use Rattle.text.specs.TextLaws.{wrote-then, wrote-room, length-numbered}
+use Rattle.decimal.specs.DecimalLaws.{wrote-then, wrote-room, length-numbered}
 use Rattle.text.specs.Text.{refusedText}
 use borrow.Author.Needs.{needs}
 use Rattle.text.proofs.write_refused.Statement.{statement}

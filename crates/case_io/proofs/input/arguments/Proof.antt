@@ -34,5 +34,5 @@ arguments-spec =
     (λ c. omega arith)
     (λ c. omega arith)
     loop-again
-    (λ c. c .before .loop .inv .long)
+    (λ c. c .before .loop .inv .sameLength)
     (λ c. taking-all (c .before .loop .inv) (omega arith)))

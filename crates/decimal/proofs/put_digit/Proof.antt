@@ -1,8 +1,8 @@
--- `text::put_digit` meets its contract.
+-- `decimal::put_digit` meets its contract.
 use borrow.Author.Needs.{needs}
-use Rattle.text.specs.TextLaws.{wrote-one}
-use Rattle.text.proofs.put_digit.Statement.{statement}
-use Rattle.text.proofs.put_digit.Tie as tie
+use Rattle.decimal.specs.DecimalLaws.{wrote-one}
+use Rattle.decimal.proofs.put_digit.Statement.{statement}
+use Rattle.decimal.proofs.put_digit.Tie as tie
 
 add-digit : tie.Need-add-digit
 add-digit c = search needs

@@ -1,11 +1,11 @@
--- `text::put_bytes` meets its contract: i bytes are copied, the others as they were.
+-- `decimal::put_bytes` meets its contract: i bytes are copied, the others as they were.
 use Prim.Native.Nat.{_-_}
 use native.Mathlib.Omega.{arith}
 use lib.ListN.{length}
 use Rattle.memory.specs.LayLaws.{Copied, copied-none}
-use Rattle.text.specs.TextLaws.{word-more, wrote-word}
-use Rattle.text.proofs.put_bytes.Statement.{statement}
-use Rattle.text.proofs.put_bytes.Tie as tie
+use Rattle.decimal.specs.DecimalLaws.{word-more, wrote-word}
+use Rattle.decimal.proofs.put_bytes.Statement.{statement}
+use Rattle.decimal.proofs.put_bytes.Tie as tie
 
 abbrev Inv-loop : tie.InvT-loop
 Inv-loop out₀ at word i₀ out i = Copied 0 at (length word) i word out₀ out

@@ -1,8 +1,8 @@
--- `text::magnitude` meets its contract.
-use Rattle.text.specs.SizeLaws.{sign-of, wide-fits, turned, plain}
+-- `decimal::magnitude` meets its contract.
+use Rattle.decimal.specs.SizeLaws.{sign-of, wide-fits, turned, plain}
 use borrow.Author.Needs.{needs}
-use Rattle.text.proofs.magnitude.Statement.{statement}
-use Rattle.text.proofs.magnitude.Tie as tie
+use Rattle.decimal.proofs.magnitude.Statement.{statement}
+use Rattle.decimal.proofs.magnitude.Tie as tie
 
 cast-wide : tie.Need-cast-wide
 cast-wide c = wide-fits (c .before .args .v) (c .before .fits .v)

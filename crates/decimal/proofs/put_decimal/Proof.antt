@@ -1,8 +1,8 @@
--- `text::put_decimal` meets its contract: the digits, 20 at most.
-use Rattle.text.specs.Text.{decimal}
+-- `decimal::put_decimal` meets its contract: the digits, 20 at most.
+use Rattle.decimal.specs.Decimal.{decimal}
 use borrow.Author.Needs.{needs}
-use Rattle.text.proofs.put_decimal.Statement.{statement}
-use Rattle.text.proofs.put_decimal.Tie as tie
+use Rattle.decimal.proofs.put_decimal.Statement.{statement}
+use Rattle.decimal.proofs.put_decimal.Tie as tie
 
 put-digits-requires : tie.Need-put-digits-requires
 put-digits-requires c κs = search needs

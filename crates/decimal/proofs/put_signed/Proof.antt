@@ -1,12 +1,12 @@
--- `text::put_signed` meets its contract: the sign, and the size behind it.
-use Rattle.text.specs.TextLaws.{wrote-as, wrote-then, signed-minus, signed-plus}
+-- `decimal::put_signed` meets its contract: the sign, and the size behind it.
+use Rattle.decimal.specs.DecimalLaws.{wrote-as, wrote-then, signed-minus, signed-plus}
 use mathlib.Core.Path.{ap, _∙_}
 use lib.IntN.{natAbs}
 use mir.Facts.{toZ-ofZ}
-use Rattle.text.specs.SizeLaws.{sign-of}
+use Rattle.decimal.specs.SizeLaws.{sign-of}
 use borrow.Author.Needs.{needs}
-use Rattle.text.proofs.put_signed.Statement.{statement}
-use Rattle.text.proofs.put_signed.Tie as tie
+use Rattle.decimal.proofs.put_signed.Statement.{statement}
+use Rattle.decimal.proofs.put_signed.Tie as tie
 
 magnitude-requires : tie.Need-magnitude-requires
 magnitude-requires c κs = search needs

@@ -1,17 +1,17 @@
--- `text::put_digits` meets its contract. The measure is k.
+-- `decimal::put_digits` meets its contract. The measure is k.
 use mathlib.Core.Path.{refl}
 use native.Mathlib.Omega.{arith}
 use borrow.Author.Needs.{needs}
-use Rattle.text.specs.TextLaws.{wrote-as, wrote-then, wrote-room, digits-last, digits-one, digits-more, length-digits}
+use Rattle.decimal.specs.DecimalLaws.{wrote-as, wrote-then, wrote-room, digits-last, digits-one, digits-more, length-digits}
 use Prim.Native.Nat.{ℕ, _<_}
 use borrow.Fn.Kinds.{In}
 use borrow.Fn.PlainCycle.{Measures, is, falls, and}
-use Rattle.text.proofs.put_digits.Reads as put-digits
-use Rattle.text.proofs.put_digits.Kinds as put-digits-kinds
-use Rattle.text.proofs.+put_digits.Lts-put_digits as put-digits-lts
-use Rattle.text.proofs.put_digit.Reads as put-digit-reads
-use Rattle.text.proofs.+put_digits.{statement}
-use Rattle.text.proofs.+put_digits.Tie.{close}
+use Rattle.decimal.proofs.put_digits.Reads as put-digits
+use Rattle.decimal.proofs.put_digits.Kinds as put-digits-kinds
+use Rattle.decimal.proofs.+put_digits.Lts-put_digits as put-digits-lts
+use Rattle.decimal.proofs.put_digit.Reads as put-digit-reads
+use Rattle.decimal.proofs.+put_digits.{statement}
+use Rattle.decimal.proofs.+put_digits.Tie.{close}
 
 abbrev μ-put-digits : Measures 1 put-digits-kinds.ps ℕ
 μ-put-digits κs a = a .1 .1 .0

@@ -1,9 +1,9 @@
--- `text::put_numbered` meets its contract: the word, and the number behind it.
-use Rattle.text.specs.TextLaws.{wrote-then}
-use Rattle.text.specs.Text.{numbered}
+-- `decimal::put_numbered` meets its contract: the word, and the number behind it.
+use Rattle.decimal.specs.DecimalLaws.{wrote-then}
+use Rattle.decimal.specs.Decimal.{numbered}
 use borrow.Author.Needs.{needs}
-use Rattle.text.proofs.put_numbered.Statement.{statement}
-use Rattle.text.proofs.put_numbered.Tie as tie
+use Rattle.decimal.proofs.put_numbered.Statement.{statement}
+use Rattle.decimal.proofs.put_numbered.Tie as tie
 
 put-bytes-requires : tie.Need-put-bytes-requires
 put-bytes-requires c κs = search needs

@@ -1,0 +1,2 @@
+// What a translated file says of a record: its parameter slot, its body and its handler body.
+pub mod parts;
