@@ -1,2 +1,2 @@
--- Laws for the code of this crate.
+-- Laws for the code of this crate; its definitions are Value's of crate `semantics`.
 pub mod WrapLaws

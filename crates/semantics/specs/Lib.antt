@@ -1,4 +1,5 @@
--- The rules on abstract syntax. Definitions, in reading order: each file is one figure of source document 003, in document 01's form.
+-- The rules on abstract syntax, in document 01's form. Definitions, in reading order: Program (figure 1 of source document 003), Bench (2),
+-- WellFormed (3, 4), Code (5), Controller (6), Translation (7), Matching (8); the others are document 01's alone.
 pub mod Value
 pub mod Program
 pub mod Run
@@ -12,7 +13,7 @@ pub mod Translation
 pub mod Extras
 pub mod Matching
 pub mod Statement
--- Laws and theorems.
+-- Laws and theorems: Theorem proves Statement, SlotStateLaws and TranslationRules its claims of the controller and the translation; Cases is computed.
 pub mod ValueLaws
 pub mod ListLaws
 pub mod RunLaws

@@ -32,8 +32,8 @@ translation-fits-requires : tie.Need-translation-fits-requires
 translation-fits-requires c κs =
     let entry = c .before .before .before .before in
     main-accepted (entry .args .file .now) (entry .args .given)
-    (main-passed (entry .args .file .now) (entry .args .given) (entry .args .depth) (entry .args .frames) (entry .args .records) (c .before .before .main-checked .ensures) (c .enum-told .given .1))
-    .0
+    (main-passed (entry .args .file .now) (entry .args .given) (entry .args .depth) (entry .args .frames) (entry .args .records) (c .before .before .main-checked .ensures)
+    (c .enum-told .given .1)) .0
 
 words-judged-requires : tie.Need-words-judged-requires
 words-judged-requires c κs = search needs

@@ -67,9 +67,9 @@ slice-aggregate-run-both c =
     let at-enum-told = at-translate .before .before in
     let at-call-judged = at-enum-told .before .before in
     let entry = entry-before-call-judged at-call-judged in
-    sym (length-take-le _ _ (size-there (entry .args .file .now) (entry .args .arguments .now) (entry .args .depth) (entry .args .budget) (entry .args .frames .now) (entry .args
-    .room .now) (entry .args .records .now) (at-call-judged .call-judged .ensures) (at-enum-told .enum-told .given .1) (at-translate .translate .result) _ (at-translate
-    .translate .ensures .0) (at-translate .translate .ensures .1) (c .before .before .size .given .1)))
+    sym (length-take-le _ _ (size-there (entry .args .file .now) (entry .args .arguments .now) (entry .args .depth) (entry .args .budget) (entry .args .frames .now)
+    (entry .args .room .now) (entry .args .records .now) (at-call-judged .call-judged .ensures) (at-enum-told .enum-told .given .1) (at-translate .translate .result) _
+    (at-translate .translate .ensures .0) (at-translate .translate .ensures .1) (c .before .before .size .given .1)))
 
 run-both-requires : tie.Need-run-both-requires
 run-both-requires c κs =

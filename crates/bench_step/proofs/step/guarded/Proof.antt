@@ -30,8 +30,8 @@ returns c =
     let at-head-at = c .before .before in
     let at-loop = at-head-at .before .before in
     let entry = at-loop .before .before in
-    search-found (entry .args .file .now) (entry .args .words .now) (at-loop .loop .w) (at-head-at .head-at .result) (omega arith) (at-head-at .head-at .ensures) (c .if1 .taken) ∙
-    at-loop .loop .inv .1
+    search-found (entry .args .file .now) (entry .args .words .now) (at-loop .loop .w) (at-head-at .head-at .result) (omega arith) (at-head-at .head-at .ensures)
+    (c .if1 .taken) ∙ at-loop .loop .inv .1
 
 loop-less : tie.Need-loop-less Inv-loop μ-loop
 loop-less c = omega arith
@@ -42,8 +42,8 @@ loop-again c =
     let at-loop = at-head-at .before .before in
     let entry = at-loop .before .before in (
       omega arith,
-      search-on (entry .args .file .now) (entry .args .words .now) (at-loop .loop .w) (at-head-at .head-at .result) (omega arith) (at-head-at .head-at .ensures) (c
-          .if1 .left) ∙ at-loop .loop .inv .1,
+      search-on (entry .args .file .now) (entry .args .words .now) (at-loop .loop .w) (at-head-at .head-at .result) (omega arith) (at-head-at .head-at .ensures)
+          (c .if1 .left) ∙ at-loop .loop .inv .1,
     )
 
 returns-2 : tie.Need-returns-2 Inv-loop μ-loop

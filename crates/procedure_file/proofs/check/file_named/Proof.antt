@@ -32,8 +32,8 @@ shared-slice-read-own c = search needs
 cast-own : tie.Need-cast-own Inv-loop μ-loop
 cast-own c =
     let entry = c .before .before .before .before .before .before .before .before .before in
-    let r = (one-room (entry .args .file .now) (entry .args .starts .now) (entry .args .handlers .now) (entry .args .params .now) (entry .args .locals .now) (entry .args .blocks
-    .now) (entry .pre) (c .before .before .loop .f) (c .before .loop-test .taken)) in
+    let r = (one-room (entry .args .file .now) (entry .args .starts .now) (entry .args .handlers .now) (entry .args .params .now) (entry .args .locals .now)
+    (entry .args .blocks .now) (entry .pre) (c .before .before .loop .f) (c .before .loop-test .taken)) in
     omega (arith, r .1)
 
 shared-slice-read-others : tie.Need-shared-slice-read-others Inv-loop μ-loop
@@ -41,8 +41,8 @@ shared-slice-read-others c =
     let at-loop-test = c .before .before in
     let at-loop = at-loop-test .before in
     let entry = entry-before-at-loop at-loop in
-    let r = (one-room (entry .args .file .now) (entry .args .starts .now) (entry .args .handlers .now) (entry .args .params .now) (entry .args .locals .now) (entry .args .blocks
-    .now) (entry .pre) (at-loop .loop .f) (at-loop-test .loop-test .taken)) in
+    let r = (one-room (entry .args .file .now) (entry .args .starts .now) (entry .args .handlers .now) (entry .args .params .now) (entry .args .locals .now)
+    (entry .args .blocks .now) (entry .pre) (at-loop .loop .f) (at-loop-test .loop-test .taken)) in
     omega (arith, r .0, entry .pre .localsLong)
 
 cast-others : tie.Need-cast-others Inv-loop μ-loop
@@ -50,8 +50,8 @@ cast-others c =
     let at-loop-test = c .before .before in
     let at-loop = at-loop-test .before in
     let entry = entry-before-at-loop at-loop in
-    let r = (one-room (entry .args .file .now) (entry .args .starts .now) (entry .args .handlers .now) (entry .args .params .now) (entry .args .locals .now) (entry .args .blocks
-    .now) (entry .pre) (at-loop .loop .f) (at-loop-test .loop-test .taken)) in
+    let r = (one-room (entry .args .file .now) (entry .args .starts .now) (entry .args .handlers .now) (entry .args .params .now) (entry .args .locals .now)
+    (entry .args .blocks .now) (entry .pre) (at-loop .loop .f) (at-loop-test .loop-test .taken)) in
     omega (arith, r .2)
 
 add-variables : tie.Need-add-variables Inv-loop μ-loop
@@ -59,8 +59,8 @@ add-variables c =
     let at-loop-test = c .before .before in
     let at-loop = at-loop-test .before in
     let entry = entry-before-at-loop at-loop in
-    let r = (one-room (entry .args .file .now) (entry .args .starts .now) (entry .args .handlers .now) (entry .args .params .now) (entry .args .locals .now) (entry .args .blocks
-    .now) (entry .pre) (at-loop .loop .f) (at-loop-test .loop-test .taken)) in
+    let r = (one-room (entry .args .file .now) (entry .args .starts .now) (entry .args .handlers .now) (entry .args .params .now) (entry .args .locals .now)
+    (entry .args .blocks .now) (entry .pre) (at-loop .loop .f) (at-loop-test .loop-test .taken)) in
     omega (arith, r .1, r .2)
 
 shared-slice-read-labels : tie.Need-shared-slice-read-labels Inv-loop μ-loop
@@ -68,8 +68,8 @@ shared-slice-read-labels c =
     let at-loop-test = in-loop-before-shared-slice-known9 c in
     let at-loop = at-loop-test .before in
     let entry = entry-before-at-loop at-loop in
-    let r = (one-room (entry .args .file .now) (entry .args .starts .now) (entry .args .handlers .now) (entry .args .params .now) (entry .args .locals .now) (entry .args .blocks
-    .now) (entry .pre) (at-loop .loop .f) (at-loop-test .loop-test .taken)) in
+    let r = (one-room (entry .args .file .now) (entry .args .starts .now) (entry .args .handlers .now) (entry .args .params .now) (entry .args .locals .now)
+    (entry .args .blocks .now) (entry .pre) (at-loop .loop .f) (at-loop-test .loop-test .taken)) in
     omega (arith, r .0, entry .pre .blocksLong)
 
 cast-labels : tie.Need-cast-labels Inv-loop μ-loop
@@ -96,8 +96,9 @@ returns c =
     let at-loop = at-loop-test .before in
     let entry = entry-before-at-loop at-loop in
     function-wrong (entry .args .file .now) (entry .args .starts .now) (entry .args .handlers .now) (entry .args .params .now) (entry .args .locals .now) (entry .args .blocks .now)
-    (entry .pre) (at-loop .loop .f) (at-loop-test .loop-test .taken) _ (at-r .r .given .0 .0) (at-function-named .function-named .ensures) (at-r .r .given .1) ∙ at-loop .loop
-    .inv ∙ all-names (entry .args .file .now) (entry .args .starts .now) (entry .args .handlers .now) (entry .args .params .now) (entry .args .locals .now)
+    (entry .pre) (at-loop .loop .f) (at-loop-test .loop-test .taken) _ (at-r .r .given .0 .0) (at-function-named .function-named .ensures)
+    (at-r .r .given .1) ∙ at-loop .loop .inv ∙ all-names (entry .args .file .now) (entry .args .starts .now) (entry .args .handlers .now) (entry .args .params .now)
+    (entry .args .locals .now)
     (entry .args .blocks .now) (entry .pre)
 
 enum-told : tie.Need-enum-told Inv-loop μ-loop
@@ -108,8 +109,8 @@ add-f c =
     let at-loop-test = in-loop-before-enum-told c in
     let at-loop = at-loop-test .before in
     let entry = entry-before-at-loop at-loop in
-    let r = (one-room (entry .args .file .now) (entry .args .starts .now) (entry .args .handlers .now) (entry .args .params .now) (entry .args .locals .now) (entry .args .blocks
-    .now) (entry .pre) (at-loop .loop .f) (at-loop-test .loop-test .taken)) in
+    let r = (one-room (entry .args .file .now) (entry .args .starts .now) (entry .args .handlers .now) (entry .args .params .now) (entry .args .locals .now)
+    (entry .args .blocks .now) (entry .pre) (at-loop .loop .f) (at-loop-test .loop-test .taken)) in
     omega (arith, r .0)
 
 loop-less : tie.Need-loop-less Inv-loop μ-loop

@@ -35,22 +35,22 @@ in-loop-before-enum-told2 c = c .before .before .before .before .before
 mul-row : tie.Need-mul-row Inv-loop μ-loop
 mul-row c =
     let entry = entry-before-shared-slice-known4 c in
-    let r = (naming-room (entry .args .params .now) (entry .args .file .now) (entry .args .f) (entry .args .labels) (entry .args .variables) (entry .args .starts .now) (entry
-    .args .handlers .now) (entry .pre)) in
+    let r = (naming-room (entry .args .params .now) (entry .args .file .now) (entry .args .f) (entry .args .labels) (entry .args .variables) (entry .args .starts .now)
+    (entry .args .handlers .now) (entry .pre)) in
     omega (arith, r .0)
 
 mul-entry : tie.Need-mul-entry Inv-loop μ-loop
 mul-entry c =
     let entry = entry-before-shared-slice-known4 c in
-    let r = (naming-room (entry .args .params .now) (entry .args .file .now) (entry .args .f) (entry .args .labels) (entry .args .variables) (entry .args .starts .now) (entry
-    .args .handlers .now) (entry .pre)) in
+    let r = (naming-room (entry .args .params .now) (entry .args .file .now) (entry .args .f) (entry .args .labels) (entry .args .variables) (entry .args .starts .now)
+    (entry .args .handlers .now) (entry .pre)) in
     omega (arith, r .0)
 
 shared-slice-read-entry : tie.Need-shared-slice-read-entry Inv-loop μ-loop
 shared-slice-read-entry c =
     let entry = entry-before-shared-slice-known5 c in
-    let r = (naming-room (entry .args .params .now) (entry .args .file .now) (entry .args .f) (entry .args .labels) (entry .args .variables) (entry .args .starts .now) (entry
-    .args .handlers .now) (entry .pre)) in
+    let r = (naming-room (entry .args .params .now) (entry .args .file .now) (entry .args .f) (entry .args .labels) (entry .args .variables) (entry .args .starts .now)
+    (entry .args .handlers .now) (entry .pre)) in
     omega (arith, r .0, entry .pre .startsLong)
 
 cast-entry : tie.Need-cast-entry Inv-loop μ-loop
@@ -84,29 +84,29 @@ loop-holds c =
 add-index : tie.Need-add-index Inv-loop μ-loop
 add-index c =
     let entry = entry-before-in-loop c in
-    let r = (naming-room (entry .args .params .now) (entry .args .file .now) (entry .args .f) (entry .args .labels) (entry .args .variables) (entry .args .starts .now) (entry
-    .args .handlers .now) (entry .pre)) in
+    let r = (naming-room (entry .args .params .now) (entry .args .file .now) (entry .args .f) (entry .args .labels) (entry .args .variables) (entry .args .starts .now)
+    (entry .args .handlers .now) (entry .pre)) in
     omega (arith, r .1, c .loop-test .taken)
 
 add-index-2 : tie.Need-add-index-2 Inv-loop μ-loop
 add-index-2 c =
     let entry = entry-before-in-loop c in
-    let r = (naming-room (entry .args .params .now) (entry .args .file .now) (entry .args .f) (entry .args .labels) (entry .args .variables) (entry .args .starts .now) (entry
-    .args .handlers .now) (entry .pre)) in
+    let r = (naming-room (entry .args .params .now) (entry .args .file .now) (entry .args .f) (entry .args .labels) (entry .args .variables) (entry .args .starts .now)
+    (entry .args .handlers .now) (entry .pre)) in
     omega (arith, r .0, r .1, c .loop-test .taken)
 
 mul-start : tie.Need-mul-start Inv-loop μ-loop
 mul-start c =
     let entry = entry-before-in-loop c in
-    let r = (naming-room (entry .args .params .now) (entry .args .file .now) (entry .args .f) (entry .args .labels) (entry .args .variables) (entry .args .starts .now) (entry
-    .args .handlers .now) (entry .pre)) in
+    let r = (naming-room (entry .args .params .now) (entry .args .file .now) (entry .args .f) (entry .args .labels) (entry .args .variables) (entry .args .starts .now)
+    (entry .args .handlers .now) (entry .pre)) in
     omega (arith, r .0, r .1, c .loop-test .taken)
 
 shared-slice-read-start : tie.Need-shared-slice-read-start Inv-loop μ-loop
 shared-slice-read-start c =
     let entry = entry-before-shared-slice-known6 c in
-    let r = (naming-room (entry .args .params .now) (entry .args .file .now) (entry .args .f) (entry .args .labels) (entry .args .variables) (entry .args .starts .now) (entry
-    .args .handlers .now) (entry .pre)) in
+    let r = (naming-room (entry .args .params .now) (entry .args .file .now) (entry .args .f) (entry .args .labels) (entry .args .variables) (entry .args .starts .now)
+    (entry .args .handlers .now) (entry .pre)) in
     omega (arith, r .0, r .1, c .before .loop-test .taken, entry .pre .startsLong)
 
 cast-start : tie.Need-cast-start Inv-loop μ-loop
@@ -117,8 +117,8 @@ cast-start c =
 shared-slice-read-labelled-named : tie.Need-shared-slice-read-labelled-named Inv-loop μ-loop
 shared-slice-read-labelled-named c =
     let entry = c .before .before .before .before .before .before .before .before .before .before .before .before in
-    let r = (naming-room (entry .args .params .now) (entry .args .file .now) (entry .args .f) (entry .args .labels) (entry .args .variables) (entry .args .starts .now) (entry
-    .args .handlers .now) (entry .pre)) in
+    let r = (naming-room (entry .args .params .now) (entry .args .file .now) (entry .args .f) (entry .args .labels) (entry .args .variables) (entry .args .starts .now)
+    (entry .args .handlers .now) (entry .pre)) in
     omega (arith, r .0, r .1, c .before .before .loop-test .taken, entry .pre .handlersLong)
 
 labelled-named-requires : tie.Need-labelled-named-requires Inv-loop μ-loop
@@ -150,8 +150,8 @@ add-l : tie.Need-add-l Inv-loop μ-loop
 add-l c =
     let at-loop-test = in-loop-before-enum-told2 c in
     let entry = entry-before-in-loop at-loop-test in
-    let r = (naming-room (entry .args .params .now) (entry .args .file .now) (entry .args .f) (entry .args .labels) (entry .args .variables) (entry .args .starts .now) (entry
-    .args .handlers .now) (entry .pre)) in
+    let r = (naming-room (entry .args .params .now) (entry .args .file .now) (entry .args .f) (entry .args .labels) (entry .args .variables) (entry .args .starts .now)
+    (entry .args .handlers .now) (entry .pre)) in
     omega (arith, r .1, at-loop-test .loop-test .taken)
 
 loop-less : tie.Need-loop-less Inv-loop μ-loop

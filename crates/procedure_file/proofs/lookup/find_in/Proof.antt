@@ -39,9 +39,9 @@ shared-slice-read-if1 c =
     let entry = entry-before-function-number at-function-number in
     omega (
       arith,
-      find-function (entry .args .file .now) (entry .args .count) (entry .args .starts .now) (entry .args .blocks .now) (entry .pre) (entry .args .f) (entry .args
-          .label) (at-number .number .given .0 .0 .0) (function-is (entry .args .f) (entry .args .count) (at-number .number .given .0 .0) (sym
-          (at-function-number .function-number .ensures) ∙ at-number .number .given .1)),
+      find-function (entry .args .file .now) (entry .args .count) (entry .args .starts .now) (entry .args .blocks .now) (entry .pre) (entry .args .f) (entry .args .label)
+          (at-number .number .given .0 .0 .0) (function-is (entry .args .f) (entry .args .count) (at-number .number .given .0 .0)
+          (sym (at-function-number .function-number .ensures) ∙ at-number .number .given .1)),
       entry .pre .blocksLong,
     )
 

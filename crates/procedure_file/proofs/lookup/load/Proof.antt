@@ -23,8 +23,8 @@ fill-requires c κs =
     let at-shared-slice-known = at-check .before in
     let entry = at-shared-slice-known .before in
     record {
-      laid = (accepted-laid (entry .args .file .now) (λ i. omega (arith, at-shared-slice-known .shared-slice-known .given i)) _ (at-check .check .ensures) (at-enum-told
-          .enum-told .given .1)) .0;
+      laid = (accepted-laid (entry .args .file .now) (λ i. omega (arith, at-shared-slice-known .shared-slice-known .given i)) _ (at-check .check .ensures)
+          (at-enum-told .enum-told .given .1)) .0;
       startsLong = at-fill-arg .fill-arg .given .0 .1;
       handlersLong = at-fill-arg2 .fill-arg2 .given .0 .1;
       paramsLong = at-fill-arg3 .fill-arg3 .given .0 .1;

@@ -75,8 +75,7 @@ fill-row-requires c κs =
 
 add-f : tie.Need-add-f Inv-loop μ-loop
 add-f c =
-    let at-loop-test = c .before .before .before .before .before .before .before .before .before .before .before .before .before .before .before .before .before .before .before
-    .before in
+    let at-loop-test = c .before .before .before .before .before .before .before .before .before .before .before .before .before .before .before .before .before .before .before .before in
     let at-loop = at-loop-test .before in
     let r = (part-room _ _ _ _ _ _ _ _ _ (at-loop .loop .inv) (at-loop-test .loop-test .taken)) in omega (arith, r .0)
 

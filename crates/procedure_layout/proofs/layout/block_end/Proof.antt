@@ -47,8 +47,8 @@ loop-again c =
     let at-loop = at-operation-at .before in
     let entry = at-loop .before .before in
     sym
-    (block-onward (entry .args .file .now) (at-loop .loop .at) (at-next .next .given .0 .0) (ap afterOf (sym (at-operation-at .operation-at .ensures)) ∙ sym (at-after-of .after-of
-    .ensures) ∙ at-next .next .given .1))
+    (block-onward (entry .args .file .now) (at-loop .loop .at) (at-next .next .given .0 .0)
+    (ap afterOf (sym (at-operation-at .operation-at .ensures)) ∙ sym (at-after-of .after-of .ensures) ∙ at-next .next .given .1))
     ∙ at-loop .loop .inv
 
 enum-known-next-2 : tie.Need-enum-known-next-2 Inv-loop μ-loop
@@ -62,8 +62,8 @@ returns c =
     let at-loop = at-operation-at .before in
     let entry = at-loop .before .before in
     sym
-    (block-ended (entry .args .file .now) (at-loop .loop .at) (at-next2 .next2 .given .0 .0) (ap afterOf (sym (at-operation-at .operation-at .ensures)) ∙ sym (at-after-of
-    .after-of .ensures) ∙ at-next2 .next2 .given .1))
+    (block-ended (entry .args .file .now) (at-loop .loop .at) (at-next2 .next2 .given .0 .0)
+    (ap afterOf (sym (at-operation-at .operation-at .ensures)) ∙ sym (at-after-of .after-of .ensures) ∙ at-next2 .next2 .given .1))
     ∙ at-loop .loop .inv
 
 enum-known-r : tie.Need-enum-known-r Inv-loop μ-loop
@@ -77,8 +77,8 @@ returns-2 c =
     let at-loop = at-operation-at .before in
     let entry = at-loop .before .before in
     sym
-    (block-halted (entry .args .file .now) (at-loop .loop .at) (at-r .r .given .0 .0) (ap afterOf (sym (at-operation-at .operation-at .ensures)) ∙ sym (at-after-of .after-of
-    .ensures) ∙ at-r .r .given .1))
+    (block-halted (entry .args .file .now) (at-loop .loop .at) (at-r .r .given .0 .0)
+    (ap afterOf (sym (at-operation-at .operation-at .ensures)) ∙ sym (at-after-of .after-of .ensures) ∙ at-r .r .given .1))
     ∙ at-loop .loop .inv
 
 pub block-end-spec : {M : Type 1} → statement M

@@ -65,8 +65,8 @@ returns-3 c =
     let at-version-end = at-enum-told2 .before .before in
     let at-enum-told = at-version-end .before in
     let at-mark-end = at-enum-told .before .before in
-    sym (program-3 _ _ (sym (at-mark-end .mark-end .ensures) ∙ at-enum-told .enum-told .given .1) _ (sym (at-version-end .version-end .ensures) ∙ at-enum-told2 .enum-told2 .given
-    .1) _ (sym (at-count-at .count-at .ensures) ∙ c .before .r3 .given .1))
+    sym (program-3 _ _ (sym (at-mark-end .mark-end .ensures) ∙ at-enum-told .enum-told .given .1) _
+    (sym (at-version-end .version-end .ensures) ∙ at-enum-told2 .enum-told2 .given .1) _ (sym (at-count-at .count-at .ensures) ∙ c .before .r3 .given .1))
 
 returns-4 : tie.Need-returns-4
 returns-4 c =
@@ -77,8 +77,9 @@ returns-4 c =
     let at-version-end = at-enum-told2 .before .before in
     let at-enum-told = at-version-end .before in
     let at-mark-end = at-enum-told .before .before in
-    sym (program-4 _ _ (sym (at-mark-end .mark-end .ensures) ∙ at-enum-told .enum-told .given .1) _ (sym (at-version-end .version-end .ensures) ∙ at-enum-told2 .enum-told2 .given
-    .1) _ (sym (at-count-at .count-at .ensures) ∙ at-n .n .given .1) _ (sym (at-functions-end .functions-end .ensures) ∙ c .before .r4 .given .1))
+    sym (program-4 _ _ (sym (at-mark-end .mark-end .ensures) ∙ at-enum-told .enum-told .given .1) _
+    (sym (at-version-end .version-end .ensures) ∙ at-enum-told2 .enum-told2 .given .1) _ (sym (at-count-at .count-at .ensures) ∙ at-n .n .given .1) _
+    (sym (at-functions-end .functions-end .ensures) ∙ c .before .r4 .given .1))
 
 returns-5 : tie.Need-returns-5
 returns-5 c =

@@ -48,9 +48,8 @@ loop-again c =
       entry .pre,
       omega (arith, i .1),
       i .2,
-      argument-on (entry .args .file .now) (entry .args .variables) (entry .args .at) (entry .args .count) (entry .pre) (at-loop .loop
-          .place) (i .1) (omega (arith, i .2, at-loop-test .loop-test .taken)) (variable-is _ _ _ (sym (c .before .before .variable-number .ensures) ∙ c .enum-told .given .1)) ∙ i
-          .3,
+      argument-on (entry .args .file .now) (entry .args .variables) (entry .args .at) (entry .args .count) (entry .pre) (at-loop .loop .place) (i .1)
+          (omega (arith, i .2, at-loop-test .loop-test .taken)) (variable-is _ _ _ (sym (c .before .before .variable-number .ensures) ∙ c .enum-told .given .1)) ∙ i .3,
     )
 
 enum-told-2 : tie.Need-enum-told-2 Inv-loop μ-loop
@@ -63,8 +62,8 @@ returns c =
     let entry = at-loop .before .before in
     let i = at-loop .loop .inv in
     argument-wrong (entry .args .file .now) (entry .args .variables) (entry .args .at) (entry .args .count) (entry .pre) (at-loop .loop .place) (i .1)
-    (omega (arith, i .2, at-loop-test .loop-test .taken)) (variable-none _ _ (sym (c .before .before .variable-number .ensures) ∙ c .enum-told2 .given .1)) ∙ i .3 ∙
-    arguments-start (entry .args .file .now) (entry .args .variables) (entry .args .at) (entry .args .count) (entry .pre)
+    (omega (arith, i .2, at-loop-test .loop-test .taken)) (variable-none _ _ (sym (c .before .before .variable-number .ensures) ∙ c .enum-told2 .given .1)) ∙ i .3 ∙ arguments-start
+    (entry .args .file .now) (entry .args .variables) (entry .args .at) (entry .args .count) (entry .pre)
 
 returns-2 : tie.Need-returns-2 Inv-loop μ-loop
 returns-2 c =

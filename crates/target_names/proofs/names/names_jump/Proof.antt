@@ -65,8 +65,8 @@ returns c =
     let at-reads-slot = at-reads-slot2 .before in
     let at-names-function = at-reads-slot .before in
     c .and-also4 .ensures ∙ also (at-names-function .names-function .ensures)
-    (c .before .and-also3 .ensures ∙ also (at-and-also .and-also .ensures ∙ also (at-reads-slot .reads-slot .ensures) (at-reads-slot2 .reads-slot2 .ensures)) (at-and-also2
-    .and-also2 .ensures ∙ also (at-counts .counts .ensures) (at-reads-values .reads-values .ensures)))
+    (c .before .and-also3 .ensures ∙ also (at-and-also .and-also .ensures ∙ also (at-reads-slot .reads-slot .ensures) (at-reads-slot2 .reads-slot2 .ensures))
+    (at-and-also2 .and-also2 .ensures ∙ also (at-counts .counts .ensures) (at-reads-values .reads-values .ensures)))
 
 pub names-jump-spec : {M : Type 1} → statement M
 names-jump-spec =

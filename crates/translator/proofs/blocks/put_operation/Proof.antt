@@ -40,8 +40,9 @@ put-constant-requires c κs =
     let entry = entry-before-x at-x in
     let F = arm-fine (entry .pre .0 .0) (entry .pre .0 .1) (at-x .x .given .1) in (
       (F .0, omega (arith, F .1)),
-      room-as (constant-bytes (entry .args .file .now) (entry .args .at) (at-x .x .given .0 .0) (F .2)) (arm-room (entry .args .file .now) (entry .args
-          .numbers .now) (entry .args .base) (entry .args .v) (entry .args .h) (entry .args .at) (at-x .x .given .1) (entry .pre .1)),
+      room-as (constant-bytes (entry .args .file .now) (entry .args .at) (at-x .x .given .0 .0) (F .2))
+          (arm-room (entry .args .file .now) (entry .args .numbers .now) (entry .args .base) (entry .args .v) (entry .args .h) (entry .args .at) (at-x .x .given .1)
+          (entry .pre .1)),
     )
 
 enum-known-x-2 : tie.Need-enum-known-x-2
@@ -87,8 +88,8 @@ put-label-jump-requires : tie.Need-put-label-jump-requires
 put-label-jump-requires c κs =
     let entry = c .before .before .before .before .before .before in (
       (entry .pre .0 .0 .baseBound, variables-bound (entry .pre .0 .0 .here)),
-      arm-room (entry .args .file .now) (entry .args .numbers .now) (entry .args .base) (entry .args .v) (entry
-          .args .h) (entry .args .at) (c .before .before .x5 .given .1) (entry .pre .1),
+      arm-room (entry .args .file .now) (entry .args .numbers .now) (entry .args .base) (entry .args .v) (entry .args .h) (entry .args .at) (c .before .before .x5 .given .1)
+          (entry .pre .1),
     )
 
 enum-known-x-6 : tie.Need-enum-known-x-6
@@ -112,8 +113,7 @@ put-branch-requires c κs =
     let entry = entry-before-x7 at-x7 in
     let F = arm-fine (entry .pre .0 .0) (entry .pre .0 .1) (at-x7 .x7 .given .1) in (
       (entry .pre .0 .0 .baseBound, variables-bound (entry .pre .0 .0 .here), F .0, F .1),
-      arm-room (entry .args .file .now) (entry .args .numbers .now) (entry .args .base) (entry .args
-          .v) (entry .args .h) (entry .args .at) (at-x7 .x7 .given .1) (entry .pre .1),
+      arm-room (entry .args .file .now) (entry .args .numbers .now) (entry .args .base) (entry .args .v) (entry .args .h) (entry .args .at) (at-x7 .x7 .given .1) (entry .pre .1),
     )
 
 enum-told : tie.Need-enum-told
@@ -123,8 +123,8 @@ put-raise-requires : tie.Need-put-raise-requires
 put-raise-requires c κs =
     let entry = c .before .before .before .before .before in (
       (entry .pre .0 .0 .baseBound, variables-bound (entry .pre .0 .0 .here)),
-      arm-room (entry .args .file .now) (entry .args .numbers .now) (entry .args .base) (entry .args .v) (entry
-          .args .h) (entry .args .at) (c .before .enum-told .given .1) (entry .pre .1),
+      arm-room (entry .args .file .now) (entry .args .numbers .now) (entry .args .base) (entry .args .v) (entry .args .h) (entry .args .at) (c .before .enum-told .given .1)
+          (entry .pre .1),
     )
 
 enum-told-2 : tie.Need-enum-told-2

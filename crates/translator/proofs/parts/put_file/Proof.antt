@@ -89,13 +89,11 @@ put-functions-requires c κs =
     let entry = entry-before-byte-number at-byte-number in (
       (
         entry .pre .0,
-        λ g h. at-fill-numbers .fill-numbers .ensures .1 g (omega (arith, h, at-byte-number .byte-number .ensures .0, count-is (entry .pre .0))) ∙ number-from (entry
-            .pre .0) g h,
+        λ g h. at-fill-numbers .fill-numbers .ensures .1 g (omega (arith, h, at-byte-number .byte-number .ensures .0, count-is (entry .pre .0))) ∙ number-from (entry .pre .0) g h,
         at-byte-number .byte-number .ensures .0 ∙ count-is (entry .pre .0),
       ),
-      functions-room (entry .args .file .now) (targets-are (entry .pre .0) (at-byte-number
-          .byte-number .ensures .0 ∙ count-is (entry .pre .0)) (at-fill-numbers .fill-numbers .ensures .0)) (entry .pre .1) (at-put-three .put-three .ensures) (at-put-two .put-two
-          .ensures) (at-put-pair .put-pair .ensures),
+      functions-room (entry .args .file .now) (targets-are (entry .pre .0) (at-byte-number .byte-number .ensures .0 ∙ count-is (entry .pre .0))
+          (at-fill-numbers .fill-numbers .ensures .0)) (entry .pre .1) (at-put-three .put-three .ensures) (at-put-two .put-two .ensures) (at-put-pair .put-pair .ensures),
     )
 
 same-length : tie.Need-same-length

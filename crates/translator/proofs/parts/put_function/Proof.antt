@@ -68,8 +68,9 @@ loop-again c =
     let at-byte-number = at-loop .before in
     let entry = entry-before-byte-number at-byte-number in
     let b = label-inside (entry .pre .0 .0) (entry .args .f) (entry .pre .1 .0) (at-byte-number .byte-number .ensures .0) (at-loop-test .loop-test .taken) in (
-      rest-more (at-loop .loop .inv .0) (labelBytes (entry .args .file .now) (entry .args .f) (at-loop .loop .l)) (blocksFrom (entry .args .file .now) (entry .args .f) (at-loop
-          .loop .l + 1)) (blocks-more (entry .args .file .now) (entry .args .f) (at-loop .loop .l) b) (c .before .before .put-label .ensures),
+      rest-more (at-loop .loop .inv .0) (labelBytes (entry .args .file .now) (entry .args .f) (at-loop .loop .l))
+          (blocksFrom (entry .args .file .now) (entry .args .f) (at-loop .loop .l + 1)) (blocks-more (entry .args .file .now) (entry .args .f) (at-loop .loop .l) b)
+          (c .before .before .put-label .ensures),
       omega (
         arith,
         at-loop-test .loop-test .taken,
@@ -84,8 +85,8 @@ returns c =
     let at-loop = c .before in
     let entry = at-loop .before .before .before .before .before in
     rest-done (at-loop .loop .inv .0)
-    (blocks-none (entry .args .file .now) (entry .args .f) (at-loop .loop .l) (label-outside (entry .pre .0 .0) (entry .args .f) (entry .pre .1 .0) (c .before .before .byte-number
-    .ensures .0) (omega (arith, c .loop-test .left))))
+    (blocks-none (entry .args .file .now) (entry .args .f) (at-loop .loop .l)
+    (label-outside (entry .pre .0 .0) (entry .args .f) (entry .pre .1 .0) (c .before .before .byte-number .ensures .0) (omega (arith, c .loop-test .left))))
 
 pub put-function-spec : {M : Type 1} → statement M
 put-function-spec =

@@ -99,9 +99,9 @@ put-part-requires c κs =
         w .0,
         w .1,
       ),
-      room-as (label-part (entry .pre .0 .0) (entry .args .f) (entry .pre .1 .0 .0) (entry .args .l) (entry .pre .1 .0 .1) refl refl refl (at-offset-number2 .offset-number2
-          .ensures .0) (entry .args .numbers .now) (entry .pre .0 .1) (at-offset-number .offset-number .ensures .0) (at-by-label .by-label .ensures) (at-by-label2 .by-label2
-          .ensures)) (entry .pre .1 .1),
+      room-as (label-part (entry .pre .0 .0) (entry .args .f) (entry .pre .1 .0 .0) (entry .args .l) (entry .pre .1 .0 .1) refl refl refl
+          (at-offset-number2 .offset-number2 .ensures .0) (entry .args .numbers .now) (entry .pre .0 .1) (at-offset-number .offset-number .ensures .0)
+          (at-by-label .by-label .ensures) (at-by-label2 .by-label2 .ensures)) (entry .pre .1 .1),
     )
 
 same-length : tie.Need-same-length

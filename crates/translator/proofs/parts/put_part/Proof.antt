@@ -38,10 +38,10 @@ put-pair-requires c κs =
     let at-put-one = c .before .before .before in
     let at-block-size = at-put-one .before .before in
     let entry = entry-before-block-size at-block-size in (
-      part-small (entry .args .file .now) (entry .args .base) (entry .args .p) (entry .args .n) (entry .args .v) (entry .args .h) (entry .args .at) (at-block-size .block-size
-          .ensures) (entry .pre .1),
-      part-pair-room (entry .args .file .now) (entry .args .base) (entry .args .p) (entry .args .n) (entry .args .v) (entry .args .h) (entry .args
-          .at) (at-block-size .block-size .ensures) (entry .pre .1) (at-put-one .put-one .ensures),
+      part-small (entry .args .file .now) (entry .args .base) (entry .args .p) (entry .args .n) (entry .args .v) (entry .args .h) (entry .args .at)
+          (at-block-size .block-size .ensures) (entry .pre .1),
+      part-pair-room (entry .args .file .now) (entry .args .base) (entry .args .p) (entry .args .n) (entry .args .v) (entry .args .h) (entry .args .at)
+          (at-block-size .block-size .ensures) (entry .pre .1) (at-put-one .put-one .ensures),
     )
 
 put-zeros-requires : tie.Need-put-zeros-requires
@@ -51,8 +51,8 @@ put-zeros-requires c κs =
     let at-block-size = at-put-one .before .before in
     let entry = entry-before-block-size at-block-size in (
       omega (arith, entry .pre .0 .1, entry .pre .0 .2),
-      part-zeros-room (entry .args .file .now) (entry .args .base) (entry .args .p) (entry .args .n) (entry .args .v) (entry
-          .args .h) (entry .args .at) (at-block-size .block-size .ensures) (entry .pre .1) (at-put-one .put-one .ensures) (at-put-pair .put-pair .ensures),
+      part-zeros-room (entry .args .file .now) (entry .args .base) (entry .args .p) (entry .args .n) (entry .args .v) (entry .args .h) (entry .args .at)
+          (at-block-size .block-size .ensures) (entry .pre .1) (at-put-one .put-one .ensures) (at-put-pair .put-pair .ensures),
     )
 
 put-block-requires : tie.Need-put-block-requires

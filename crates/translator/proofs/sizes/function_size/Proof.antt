@@ -52,8 +52,8 @@ loop-again c =
     let at-loop-test = c .before in
     let at-byte-number = at-loop-test .before .before in
     let entry = entry-before-byte-number at-byte-number in (
-      blocks-next (c .before .before .loop .inv .0) (label-inside (entry .pre .0) (entry .args .f) (entry .pre .1) (at-byte-number .byte-number .ensures .0) (at-loop-test
-          .loop-test .taken)) (c .label-size .ensures),
+      blocks-next (c .before .before .loop .inv .0) (label-inside (entry .pre .0) (entry .args .f) (entry .pre .1) (at-byte-number .byte-number .ensures .0)
+          (at-loop-test .loop-test .taken)) (c .label-size .ensures),
       omega (arith, at-loop-test .loop-test .taken),
     )
 
@@ -62,8 +62,8 @@ returns c =
     let at-loop = c .before in
     let at-byte-number = at-loop .before in
     let entry = entry-before-byte-number at-byte-number in (
-      blocks-end (at-loop .loop .inv .0) (label-outside (entry .pre .0) (entry .args .f) (entry .pre .1) (at-byte-number .byte-number .ensures .0) (omega
-          (arith, c .loop-test .left))),
+      blocks-end (at-loop .loop .inv .0) (label-outside (entry .pre .0) (entry .args .f) (entry .pre .1) (at-byte-number .byte-number .ensures .0)
+          (omega (arith, c .loop-test .left))),
       omega (
         arith,
         at-loop .loop .inv .0 .sizeBound,

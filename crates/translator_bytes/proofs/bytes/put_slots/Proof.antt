@@ -46,8 +46,8 @@ loop-again : tie.Need-loop-again Inv-loop μ-loop
 loop-again c =
     let at-loop-test = in-loop-before-slice-known2 c in
     let at-loop = at-loop-test .before in (
-      rest-more (at-loop .loop .inv .0) (at-loop .loop .slot ∷ []) (slotsFrom (at-loop .loop .slot + 1) (at-loop .loop .left - 1)) (slots-more (at-loop .loop .slot) (at-loop .loop
-          .left) (at-loop .loop .left - 1) (omega (arith, at-loop-test .loop-test .taken))) (c .before .before .put-one .ensures),
+      rest-more (at-loop .loop .inv .0) (at-loop .loop .slot ∷ []) (slotsFrom (at-loop .loop .slot + 1) (at-loop .loop .left - 1))
+          (slots-more (at-loop .loop .slot) (at-loop .loop .left) (at-loop .loop .left - 1) (omega (arith, at-loop-test .loop-test .taken))) (c .before .before .put-one .ensures),
       omega (
         arith,
         at-loop .loop .inv .1,

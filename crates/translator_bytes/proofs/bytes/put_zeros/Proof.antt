@@ -46,8 +46,8 @@ loop-again : tie.Need-loop-again Inv-loop μ-loop
 loop-again c =
     let at-loop-test = in-loop-before-slice-known2 c in
     let at-loop = at-loop-test .before in (
-      rest-more (at-loop .loop .inv .0) ((1 ∷ at-loop .loop .slot ∷ []) ++ (0 ∷ 0 ∷ 0 ∷ 0 ∷ [])) (zeros (at-loop .loop .slot + 1) (at-loop .loop .left - 1)) (zeros-more (at-loop
-          .loop .slot) (at-loop .loop .left) (at-loop .loop .left - 1) (omega (arith, at-loop-test .loop-test .taken))) (c .before .before .put-zero .ensures),
+      rest-more (at-loop .loop .inv .0) ((1 ∷ at-loop .loop .slot ∷ []) ++ (0 ∷ 0 ∷ 0 ∷ 0 ∷ [])) (zeros (at-loop .loop .slot + 1) (at-loop .loop .left - 1))
+          (zeros-more (at-loop .loop .slot) (at-loop .loop .left) (at-loop .loop .left - 1) (omega (arith, at-loop-test .loop-test .taken))) (c .before .before .put-zero .ensures),
       omega (
         arith,
         at-loop .loop .inv .1,

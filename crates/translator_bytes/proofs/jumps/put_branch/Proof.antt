@@ -43,8 +43,8 @@ put-label-jump-requires c κs =
     let at-jump-size = at-put-three .before .before in
     let entry = at-jump-size .before .before in (
       (entry .pre .0 .0, entry .pre .0 .1),
-      branch-then-room (entry .args .base) (entry .args .v) (entry .args .y) (entry .args .z) (entry .args .l) (entry .args .m) (at-jump-size
-          .jump-size .ensures) (entry .pre .1) (at-put-three .put-three .ensures) (at-put-pair .put-pair .ensures),
+      branch-then-room (entry .args .base) (entry .args .v) (entry .args .y) (entry .args .z) (entry .args .l) (entry .args .m) (at-jump-size .jump-size .ensures) (entry .pre .1)
+          (at-put-three .put-three .ensures) (at-put-pair .put-pair .ensures),
     )
 
 put-label-jump-requires-2 : tie.Need-put-label-jump-requires-2
@@ -55,8 +55,8 @@ put-label-jump-requires-2 c κs =
     let at-jump-size = at-put-three .before .before in
     let entry = at-jump-size .before .before in (
       (entry .pre .0 .0, entry .pre .0 .1),
-      branch-else-room (entry .args .base) (entry .args .v) (entry .args .y) (entry .args .z) (entry .args .l) (entry .args .m) (at-jump-size
-          .jump-size .ensures) (entry .pre .1) (at-put-three .put-three .ensures) (at-put-pair .put-pair .ensures) (at-put-label-jump .put-label-jump .ensures),
+      branch-else-room (entry .args .base) (entry .args .v) (entry .args .y) (entry .args .z) (entry .args .l) (entry .args .m) (at-jump-size .jump-size .ensures) (entry .pre .1)
+          (at-put-three .put-three .ensures) (at-put-pair .put-pair .ensures) (at-put-label-jump .put-label-jump .ensures),
     )
 
 same-length : tie.Need-same-length

@@ -9,8 +9,8 @@ put-plain-call-requires : tie.Need-put-plain-call-requires
 put-plain-call-requires c κs =
     let entry = c .before .before .before .before in (
       (entry .pre .0 .1, entry .pre .0 .2, entry .pre .0 .3, entry .pre .0 .4, entry .pre .0 .5),
-      room-as (plain-as (entry .args .base) (entry .args .v) (entry .args .h) (entry
-          .args .x) (entry .args .g) (entry .args .n) (take (entry .args .n) (drop (entry .args .from) (entry .args .file .now))) (c .before .if1 .taken)) (entry .pre .1),
+      room-as (plain-as (entry .args .base) (entry .args .v) (entry .args .h) (entry .args .x) (entry .args .g) (entry .args .n)
+          (take (entry .args .n) (drop (entry .args .from) (entry .args .file .now))) (c .before .if1 .taken)) (entry .pre .1),
     )
 
 put-guarded-call-requires : tie.Need-put-guarded-call-requires

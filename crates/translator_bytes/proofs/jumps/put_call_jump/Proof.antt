@@ -24,8 +24,8 @@ put-arguments-requires c κs =
     let at-put-jump-head = c .before .before .before in
     let entry = at-put-jump-head .before .before .before .before in (
       (entry .pre .0 .1 .inside, entry .pre .0 .1 .small),
-      room-back (jumpHead (entry .args .g) (entry .args .k) (entry .args .h) (entry .args .n)) (map slotOf (take
-          (entry .args .n) (drop (entry .args .from) (entry .args .file .now)))) (entry .pre .1) (at-put-jump-head .put-jump-head .ensures),
+      room-back (jumpHead (entry .args .g) (entry .args .k) (entry .args .h) (entry .args .n))
+          (map slotOf (take (entry .args .n) (drop (entry .args .from) (entry .args .file .now)))) (entry .pre .1) (at-put-jump-head .put-jump-head .ensures),
     )
 
 same-length : tie.Need-same-length

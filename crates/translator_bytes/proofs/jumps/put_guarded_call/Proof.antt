@@ -48,8 +48,8 @@ put-pair-requires c κs =
     let entry = entry-before-jump-size at-jump-size in (
       omega (arith, at-jump-size .jump-size .ensures, entry .pre .0 .3),
       guarded-pair-room (entry .args .base) (entry .args .v) (entry .args .h) (entry .args .x) (entry .args .g)
-          (entry .args .n) (take (entry .args .n) (drop (entry .args .from) (entry .args .file .now))) (at-jump-size .jump-size .ensures) (at-jump-size2 .jump-size2 .ensures) (entry
-          .pre .1) (at-put-four .put-four .ensures),
+          (entry .args .n) (take (entry .args .n) (drop (entry .args .from) (entry .args .file .now))) (at-jump-size .jump-size .ensures) (at-jump-size2 .jump-size2 .ensures)
+          (entry .pre .1) (at-put-four .put-four .ensures),
     )
 
 put-call-jump-requires : tie.Need-put-call-jump-requires
@@ -60,9 +60,9 @@ put-call-jump-requires c κs =
     let at-jump-size = at-jump-size2 .before in
     let entry = entry-before-jump-size at-jump-size in (
       (entry .pre .0 .4, entry .pre .0 .5),
-      guarded-jump-room (entry .args .base) (entry .args .v) (entry .args .h) (entry .args .x) (entry .args .g) (entry .args .n) (take (entry
-          .args .n) (drop (entry .args .from) (entry .args .file .now))) (at-jump-size .jump-size .ensures) (at-jump-size2 .jump-size2 .ensures) (entry .pre .1) (at-put-four
-          .put-four .ensures) (at-put-pair .put-pair .ensures),
+      guarded-jump-room (entry .args .base) (entry .args .v) (entry .args .h) (entry .args .x) (entry .args .g) (entry .args .n)
+          (take (entry .args .n) (drop (entry .args .from) (entry .args .file .now))) (at-jump-size .jump-size .ensures) (at-jump-size2 .jump-size2 .ensures) (entry .pre .1)
+          (at-put-four .put-four .ensures) (at-put-pair .put-pair .ensures),
     )
 
 put-pair-requires-2 : tie.Need-put-pair-requires-2
@@ -74,9 +74,9 @@ put-pair-requires-2 c κs =
     let at-jump-size = at-jump-size2 .before in
     let entry = entry-before-jump-size at-jump-size in (
       omega (arith, at-jump-size2 .jump-size2 .ensures, entry .pre .0 .1),
-      guarded-length-room (entry .args .base) (entry .args .v) (entry .args .h) (entry .args .x) (entry .args
-          .g) (entry .args .n) (take (entry .args .n) (drop (entry .args .from) (entry .args .file .now))) (at-jump-size .jump-size .ensures) (at-jump-size2 .jump-size2 .ensures)
-          (entry .pre .1) (at-put-four .put-four .ensures) (at-put-pair .put-pair .ensures) (at-put-call-jump .put-call-jump .ensures),
+      guarded-length-room (entry .args .base) (entry .args .v) (entry .args .h) (entry .args .x) (entry .args .g) (entry .args .n)
+          (take (entry .args .n) (drop (entry .args .from) (entry .args .file .now))) (at-jump-size .jump-size .ensures) (at-jump-size2 .jump-size2 .ensures) (entry .pre .1)
+          (at-put-four .put-four .ensures) (at-put-pair .put-pair .ensures) (at-put-call-jump .put-call-jump .ensures),
     )
 
 put-label-jump-requires : tie.Need-put-label-jump-requires
@@ -89,9 +89,9 @@ put-label-jump-requires c κs =
     let at-jump-size = at-jump-size2 .before in
     let entry = entry-before-jump-size at-jump-size in (
       (entry .pre .0 .0, entry .pre .0 .1),
-      guarded-label-room (entry .args .base) (entry .args .v) (entry .args .h) (entry .args .x) (entry .args .g) (entry .args .n) (take (entry
-          .args .n) (drop (entry .args .from) (entry .args .file .now))) (at-jump-size .jump-size .ensures) (at-jump-size2 .jump-size2 .ensures) (entry .pre .1) (at-put-four
-          .put-four .ensures) (at-put-pair .put-pair .ensures) (at-put-call-jump .put-call-jump .ensures) (at-put-pair2 .put-pair2 .ensures),
+      guarded-label-room (entry .args .base) (entry .args .v) (entry .args .h) (entry .args .x) (entry .args .g) (entry .args .n)
+          (take (entry .args .n) (drop (entry .args .from) (entry .args .file .now))) (at-jump-size .jump-size .ensures) (at-jump-size2 .jump-size2 .ensures) (entry .pre .1)
+          (at-put-four .put-four .ensures) (at-put-pair .put-pair .ensures) (at-put-call-jump .put-call-jump .ensures) (at-put-pair2 .put-pair2 .ensures),
     )
 
 same-length : tie.Need-same-length

@@ -20,8 +20,8 @@ put-pair-requires c κs =
     let at-put-one = c .before .before .before in
     let entry = at-put-one .before .before .before in (
       entry .pre .0,
-      room-front (pairBytes (entry .args .g)) (entry .args .k ∷ entry .args .h ∷ entry .args .n ∷ []) (room-back (4 ∷ []) (pairBytes (entry .args .g) ++
-          (entry .args .k ∷ entry .args .h ∷ entry .args .n ∷ [])) (entry .pre .1) (at-put-one .put-one .ensures)),
+      room-front (pairBytes (entry .args .g)) (entry .args .k ∷ entry .args .h ∷ entry .args .n ∷ [])
+          (room-back (4 ∷ []) (pairBytes (entry .args .g) ++ (entry .args .k ∷ entry .args .h ∷ entry .args .n ∷ [])) (entry .pre .1) (at-put-one .put-one .ensures)),
     )
 
 put-three-requires : tie.Need-put-three-requires
