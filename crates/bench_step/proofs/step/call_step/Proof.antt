@@ -1,7 +1,6 @@
 -- `bench_step::step::call_step` meets its contract.
 use native.Mathlib.Omega.{arith}
-use mathlib.Core.Path.{refl}
-use Rattle.bench_step.specs.MachineTablesLaws.{call-safe, call-push, call-arguments, call-clear, call-done}
+use Rattle.bench_step.specs.CallLaws.{call-safe, call-push, call-arguments, call-clear, call-done}
 use borrow.Author.Needs.{needs}
 use Rattle.bench_step.proofs.step.call_step.Statement.{statement}
 use Rattle.bench_step.proofs.step.call_step.Tie as tie
@@ -75,7 +74,7 @@ push-requires : tie.Need-push-requires
 push-requires c κs =
     let at-variables = c .before .before .before .before .before .before .before .before .before .before .before in
     let entry = at-variables .before .before in
-    call-push (entry .pre .0) (entry .pre .1 .0) (entry .pre .1 .1 .0) (at-variables .variables .ensures) (entry .pre .1 .1 .1 .1)
+    call-push (entry .pre .0) (entry .pre .1 .0) (entry .pre .1 .1 .0) (entry .pre .1 .1 .1 .1) (at-variables .variables .ensures)
 
 arguments-requires : tie.Need-arguments-requires
 arguments-requires c κs =
@@ -83,17 +82,18 @@ arguments-requires c κs =
     let at-byte-number = at-push .before .before .before .before .before .before .before .before .before .before in
     let at-variables = at-byte-number .before .before in
     let entry = at-variables .before .before in
-    call-arguments (entry .pre .0) (entry .pre .1 .0) (entry .pre .1 .1 .0) (at-variables .variables .ensures) (at-byte-number .byte-number .ensures .0) (entry .pre .1 .1 .1 .1)
-    (at-push .push .ensures)
+    call-arguments (entry .pre .0) (entry .pre .1 .0) (entry .pre .1 .1 .0) (entry .pre .1 .1 .1 .1) (at-variables .variables .ensures) (at-push .push .ensures)
+    (at-byte-number .byte-number .ensures .0)
 
 clear-requires : tie.Need-clear-requires
 clear-requires c κs =
     let at-push = c .before .before .before .before .before in
     let at-byte-number2 = at-push .before .before .before .before .before .before .before .before in
     let at-byte-number = at-byte-number2 .before .before in
-    let entry = entry-before-byte-number at-byte-number in
-    call-clear (entry .pre .0) (entry .pre .1 .0) (entry .pre .1 .1 .0) (at-push .push .last .0) (at-byte-number .byte-number .ensures .0)
-    (at-byte-number2 .byte-number2 .ensures .0) (c .before .arguments .ensures)
+    let at-variables = at-byte-number .before .before in
+    let entry = at-variables .before .before in
+    call-clear (entry .pre .0) (entry .pre .1 .0) (entry .pre .1 .1 .0) (entry .pre .1 .1 .1 .1) (at-variables .variables .ensures) (at-push .push .ensures)
+    (at-byte-number .byte-number .ensures .0) (c .before .arguments .ensures) (at-byte-number2 .byte-number2 .ensures .0)
 
 same-length : tie.Need-same-length
 same-length c = search needs
@@ -107,8 +107,8 @@ returns c =
     let at-variables = at-byte-number .before .before in
     let entry = at-variables .before .before in
     call-done (entry .pre .0) (entry .pre .1 .0) (entry .pre .1 .1 .0) (entry .pre .1 .1 .1 .1) (at-variables .variables .ensures) (at-push .push .ensures)
-    (at-byte-number .byte-number .ensures .0) (at-byte-number2 .byte-number2 .ensures .0) (c .before .before .arguments .ensures) (c .clear .ensures)
-    (at-offset-number .offset-number .ensures .0) refl
+    (at-byte-number .byte-number .ensures .0) (c .before .before .arguments .ensures) (at-byte-number2 .byte-number2 .ensures .0) (c .clear .ensures)
+    (at-offset-number .offset-number .ensures .0)
 
 pub call-step-spec : {M : Type 1} → statement M
 call-step-spec =
