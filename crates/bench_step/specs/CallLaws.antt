@@ -44,6 +44,10 @@ map-same : {A B : Type 0} (f g : A → B) (Q : A → Type 0) (xs : List A) → A
 map-same f g Q [] a h = refl
 map-same {B = B} f g Q (x ∷ xs) a h = ap (λ (y : B). y ∷ map f xs) (h x (a .0)) ∙ ap (λ (l : List B). g x ∷ l) (map-same f g Q xs (a .1) h)
 
+-- The value that byte i names is there.
+pub value-there : {s : List ℕ} {at k : ℕ} {words : List ℤ} {base i y : ℕ} → ArgumentsInBounds s at k words base → i < k → y ≡ getD s (at + i) 0 → base + y < length words
+value-there {s} {at} {words = words} {base = base} {i = i} A l e = let r : base + 32 ≤ length words = A .room in let m : getD s (at + i) 0 < 32 = A .small i l in omega arith
+
 module _ {s starts handlers params locals : List ℕ} (L : MachineTables s starts handlers params locals) {limit : ℕ} {r : Regs} {vs words : List ℤ} (H : Invariant s limit r vs words)
     {x g c n : ℕ} (op : operationAt s (r .at) ≡ Call x g c n) where
   abbrev ys : List ℕ

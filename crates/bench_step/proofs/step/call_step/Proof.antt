@@ -1,34 +1,25 @@
 -- `bench_step::step::call_step` meets its contract.
 use native.Mathlib.Omega.{arith}
-use Rattle.bench_step.specs.CallLaws.{call-safe, call-push, call-arguments, call-clear, call-done}
+use Rattle.bench_step.specs.CallLaws.{CallSafe, call-safe, call-push, call-arguments, call-clear, call-done}
 use borrow.Author.Needs.{needs}
 use Rattle.bench_step.proofs.step.call_step.Statement.{statement}
 use Rattle.bench_step.proofs.step.call_step.Tie as tie
 
--- Ways back to earlier places that several answers take.
-abbrev entry-before-byte-number : tie.After-byte-number → tie.Start
-entry-before-byte-number c = c .before .before .before .before
-
-abbrev entry-before-struct-known : tie.After-struct-known → tie.Start
-entry-before-struct-known c = c .before .before .before .before .before .before .before
+-- What is known of the call.
+safe : (c : tie.Start) → CallSafe (c .pre .0) (c .pre .1 .0) (c .pre .1 .1 .0)
+safe c = call-safe (c .pre .0) (c .pre .1 .0) (c .pre .1 .1 .0)
 
 variables-requires : tie.Need-variables-requires
-variables-requires c κs =
-    let entry = c .before in
-    call-safe (entry .pre .0) (entry .pre .1 .0) (entry .pre .1 .1 .0) .own
+variables-requires c κs = safe (c .before) .own
 
 element-copy-out-byte-number : tie.Need-element-copy-out-byte-number
-element-copy-out-byte-number c =
-    let entry = c .before .before in
-    call-safe (entry .pre .0) (entry .pre .1 .0) (entry .pre .1 .1 .0) .function
+element-copy-out-byte-number c = safe (c .before .before) .function
 
 byte-number-requires : tie.Need-byte-number-requires
 byte-number-requires c κs = search needs
 
 element-copy-out-byte-number-2 : tie.Need-element-copy-out-byte-number-2
-element-copy-out-byte-number-2 c =
-    let entry = entry-before-byte-number c in
-    call-safe (entry .pre .0) (entry .pre .1 .0) (entry .pre .1 .1 .0) .function
+element-copy-out-byte-number-2 c = safe (c .before .before .before .before) .function
 
 byte-number-requires-2 : tie.Need-byte-number-requires-2
 byte-number-requires-2 c κs = search needs
@@ -40,9 +31,7 @@ add-base : tie.Need-add-base
 add-base c = search needs
 
 add-from : tie.Need-add-from
-add-from c =
-    let entry = entry-before-struct-known c in
-    omega (arith, call-safe (entry .pre .0) (entry .pre .1 .0) (entry .pre .1 .1 .0) .place)
+add-from c = omega (arith, safe (c .before .before .before .before .before .before .before) .place)
 
 add-last : tie.Need-add-last
 add-last c = search needs
@@ -54,9 +43,7 @@ mul-offset-number : tie.Need-mul-offset-number
 mul-offset-number c = search needs
 
 element-copy-out-offset-number : tie.Need-element-copy-out-offset-number
-element-copy-out-offset-number c =
-    let entry = entry-before-struct-known c in
-    call-safe (entry .pre .0) (entry .pre .1 .0) (entry .pre .1 .1 .0) .table
+element-copy-out-offset-number c = safe (c .before .before .before .before .before .before .before) .table
 
 offset-number-requires : tie.Need-offset-number-requires
 offset-number-requires c κs = search needs

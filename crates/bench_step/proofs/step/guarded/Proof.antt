@@ -1,7 +1,7 @@
 -- `bench_step::step::guarded` meets its contract: what is left to look through has the same newest frame with a handler as the whole.
-use Prim.Native.Nat.{ℕ, suc, _+_, _-_, _*_, _≤_, _<_}
+use Prim.Native.Nat.{suc, _-_, _≤_, _<_}
 use native.Mathlib.Omega.{arith}
-use mathlib.Core.Path.{_≡_, refl, sym, ap, _∙_, subst}
+use mathlib.Core.Path.{_≡_, refl, _∙_}
 use Rattle.semantics.specs.Matching.{newestGuarded}
 use Rattle.bench_step.specs.Machine.{framesOf}
 use Rattle.bench_step.specs.FrameStepLaws.{frame-ready, search-found, search-on, search-ends}
