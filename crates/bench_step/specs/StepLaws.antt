@@ -12,7 +12,7 @@ use lib.Seq.{take-set-lt, getD-take}
 use Rattle.semantics.specs.Value.{minus, atMost}
 use Rattle.semantics.specs.Program.{Label, Block, raise, Labelled, Program, variables}
 use Rattle.semantics.specs.Run.{next}
-use Rattle.semantics.specs.Bench.{Frame, State, state, given, enter, step}
+use Rattle.semantics.specs.Bench.{Frame, State, state, enter, step}
 use Rattle.semantics.specs.WellFormed.{IsLabel, WellFormedPlace}
 use Rattle.semantics.specs.Extras.{extra}
 use Rattle.semantics.specs.Statement.{waiting}
@@ -82,7 +82,7 @@ module _ {s starts handlers params locals : List ℕ} (L : MachineTables s start
     abbrev pub before : Operation → State
     before o = state f (r .handler) (restFrom s (r .at) o (restAt s)) now-vars now-frames
 
-    pub known : {o : Operation} → operationAt s (r .at) ≡ o → stateOf s r vs words ≡ before o
+    known : {o : Operation} → operationAt s (r .at) ≡ o → stateOf s r vs words ≡ before o
     unfolding stateOf
     known {o} e = ap (λ (x : Block). state f (r .handler) x now-vars now-frames) (rest-is (L .invariant) (r .at) o e)
 
@@ -177,9 +177,7 @@ module _ {s starts handlers params locals : List ℕ} (L : MachineTables s start
 
     pub copy-done : {x y n : ℕ} {v : ℤ} {q : Regs} → operationAt s (r .at) ≡ Copy x y n → v ≡ getD vs y (pos 0) → q ≡ behind n → StepResult s limit r vs words (Next q) (set vs x v) words
     unfolding step
-    copy-done {x} {n = n} e ev eq =
-        assigned x e ev eq (placed e .block .0) (on e) refl
-        (given-some (λ (u : ℤ). next (state f (r .handler) (restAt s n) (set now-vars x u) now-frames)) (value-is (placed e .block .1)))
+    copy-done {x} e ev eq = assigned x e ev eq (placed e .block .0) (on e) refl (rw (value-is (placed e .block .1)))
 
     -- 3 difference
     pub difference-safe : {x y z n : ℕ} → operationAt s (r .at) ≡ Difference x y z n → (x < 32) × (y < 32) × (z < 32)
@@ -188,10 +186,7 @@ module _ {s starts handlers params locals : List ℕ} (L : MachineTables s start
     pub difference-done : {x y z n : ℕ} {v : ℤ} {q : Regs} → operationAt s (r .at) ≡ Difference x y z n → v ≡ minus (getD vs y (pos 0)) (getD vs z (pos 0)) → q ≡ behind n
         → StepResult s limit r vs words (Next q) (set vs x v) words
     unfolding step
-    difference-done {x} {y} {z} {n} e ev eq =
-        assigned x e ev eq (placed e .block .0) (on e) refl
-        (given-some (λ (a : ℤ). given (getElem? now-vars z) (λ (b : ℤ). next (state f (r .handler) (restAt s n) (set now-vars x (minus a b)) now-frames))) (value-is (placed e .block .1))
-        ∙ given-some (λ (b : ℤ). next (state f (r .handler) (restAt s n) (set now-vars x (minus (getD vs y (pos 0)) b)) now-frames)) (value-is (placed e .block .2)))
+    difference-done {x} e ev eq = assigned x e ev eq (placed e .block .0) (on e) refl (rw (value-is (placed e .block .1), value-is (placed e .block .2)))
 
     -- To a label of the running function, with k extras.
     abbrev pub entered : ℕ → ℕ → Regs
@@ -225,10 +220,7 @@ module _ {s starts handlers params locals : List ℕ} (L : MachineTables s start
     pub branch-done : {y z l m n : ℕ} {a b : ℤ} {c c′ : Bool} {q : Regs} → operationAt s (r .at) ≡ Branch y z l m n → a ≡ getD vs y (pos 0) → b ≡ getD vs z (pos 0) → c ≡ atMost a b → c ≡ c′
         → q ≡ entered (cond c′ l m) (r .extras + 1) → StepResult s limit r vs words (Next q) vs words
     unfolding step
-    branch-done {y} {z} {l} {m} {c′ = c′} e ea eb ec et eq =
+    branch-done {y} {z} {c′ = c′} e ea eb ec et eq =
         let w = placed e .block in
-        to-label e (chosen c′ (w .2) (w .3))
-        (given-some (λ (i : ℤ). given (getElem? now-vars z) (λ (j : ℤ). enter P f (cond (atMost i j) l m) now-vars now-frames)) (value-is (w .0))
-        ∙ (given-some (λ (j : ℤ). enter P f (cond (atMost (getD vs y (pos 0)) j) l m) now-vars now-frames) (value-is (w .1))
-        ∙ ap (λ (k : Bool). enter P f (cond k l m) now-vars now-frames) (sym (sym et ∙ (ec ∙ ap₂ atMost ea eb)))))
-        refl eq
+        let k : atMost (getD vs y (pos 0)) (getD vs z (pos 0)) ≡ c′ = sym (ec ∙ ap₂ atMost ea eb) ∙ et in
+        to-label e (chosen c′ (w .2) (w .3)) (rw (value-is (w .0), value-is (w .1), k)) refl eq
