@@ -8,13 +8,12 @@ use mathlib.Core.List.{List, [], _∷_, _++_, map}
 use borrow.Author.Tests.{le-leb, lt-leb}
 use lib.IntN.{ℤ, pos}
 use lib.ListN.{length, getD, take, drop, replicate, length-map, length-replicate, length-append, length-take, length-drop}
-use lib.Seq.{getD-take, getD-drop, take-take, take-length}
 use Rattle.semantics.specs.Program.{Block, variables, noFunction}
 use Rattle.semantics.specs.Run.{next, tooDeep}
 use Rattle.semantics.specs.Bench.{Frame, frame, state, begun, step}
 use Rattle.semantics.specs.Bench as Rules
 use Rattle.semantics.specs.WellFormed.{All}
-use Rattle.semantics.specs.ListLaws.{at-getD, all-getD}
+use Rattle.semantics.specs.ListLaws.{at-getD, all-at}
 use Rattle.semantics.specs.SlotLaws.{values-are}
 use Rattle.memory.specs.declared.Head.{Head}
 use Rattle.memory.specs.Lay.{lay}
@@ -31,14 +30,8 @@ use Rattle.bench_step.specs.declared.step.Step.the-variants.{Next, Deep}
 use Rattle.procedure_file.specs.FileInvariant.{Stands}
 use Rattle.bench_step.specs.MachineTables.{functionAt, varsOf, MachineTables}
 use Rattle.bench_step.specs.Machine.{frameOf, framesOf, stateOf, FrameStands, Invariant, StepResult, ArgumentsInBounds}
-use Rattle.bench_step.specs.StepLaws.{length-frames, vars-bound, variables-are, before, stepped, extra-is, placed, there, small, on, moved}
+use Rattle.bench_step.specs.StepLaws.{length-frames, vars-bound, variables-are, before, stepped, extra-is, placed, there, small, below, on, moved}
 use Rattle.bench_step.specs.FrameStepLaws.{frames-same, front, frameWith}
-
--- k bytes that are all there, of at most c from the same place.
-bytes-same : (k c : ℕ) (l : List ℕ) → length (take c l) ≡ k → take k l ≡ take c l
-bytes-same k c l e =
-    let m : length (take c l) ≡ min c (length l) = length-take c l in
-    sym (take-take k c l (omega arith)) ∙ (ap (λ (i : ℕ). take i (take c l)) (sym e) ∙ take-length (take c l))
 
 map-same : {A B : Type 0} (f g : A → B) (Q : A → Type 0) (xs : List A) → All Q xs → ((x : A) → Q x → f x ≡ g x) → map f xs ≡ map g xs
 map-same f g Q [] a h = refl
@@ -66,8 +59,8 @@ module _ {s starts handlers params locals : List ℕ} (L : MachineTables s start
   count : length ys ≡ functionAt s g .params
   count = placed L H op .block .2
 
-  bytes-are : take (functionAt s g .params) (drop (r .at + 4) s) ≡ ys
-  bytes-are = bytes-same (functionAt s g .params) c (drop (r .at + 4) s) count
+  c-is : c ≡ functionAt s g .params
+  c-is = sym (L .invariant .called (r .at) x g c n op) ∙ count
 
   -- What the code may rely on.
   pub record CallSafe : Type 0 where
@@ -107,7 +100,8 @@ module _ {s starts handlers params locals : List ℕ} (L : MachineTables s start
         handler = omega arith;
         own = omega arith;
         bytes = λ i l. bytes-there i l;
-        arguments = λ i l. argument-small i l;
+        arguments = λ i l.
+            below L H (all-at (λ (y : ℕ). y < varsOf s (r .function)) ys i (getD s (r .at + 4 + i) 0) (w .block .3) (L .invariant .argument (r .at) x g c n i op (subst (λ (m : ℕ). i < m) (sym c-is) l)));
       }
     where
       bytes-there : (i : ℕ) → i < functionAt s g .params → r .at + 4 + i < length s
@@ -115,14 +109,6 @@ module _ {s starts handlers params locals : List ℕ} (L : MachineTables s start
           let a : length ys ≡ min c (length (drop (r .at + 4) s)) = length-take c (drop (r .at + 4) s) in
           let b : length (drop (r .at + 4) s) ≡ length s - (r .at + 4) = length-drop (r .at + 4) s in
           let e : length ys ≡ functionAt s g .params = count in
-          omega arith
-
-      argument-small : (i : ℕ) → i < functionAt s g .params → getD s (r .at + 4 + i) 0 < 32
-      argument-small i l =
-          let v : varsOf s (r .function) ≤ 32 = small L H in
-          let k : getD ys i 0 < varsOf s (r .function) = all-getD (λ (y : ℕ). y < varsOf s (r .function)) ys i 0 (placed L H op .block .3) (subst (λ (m : ℕ). i < m) (sym count) l) in
-          let e : getD ys i 0 ≡ getD s (r .at + 4 + i) 0 =
-          ap (λ (zs : List ℕ). getD zs i 0) (sym bytes-are) ∙ (getD-take (functionAt s g .params) (drop (r .at + 4) s) i 0 l ∙ getD-drop (r .at + 4) s i 0) in
           omega arith
 
   -- The caller's variables, the head of the frame that keeps them, and the frames with that one.
@@ -224,7 +210,7 @@ module _ {s starts handlers params locals : List ℕ} (L : MachineTables s start
 
       args-are : map (λ (y : ℕ). getD words′ (48 * r .waiting + 4 + y) (pos 0)) (take k (drop (r .at + 4) s)) ≡ args
       args-are =
-          rw (k-is, bytes-are, words-are)
+          rw (k-is, ← c-is, words-are)
           (map-same (λ (y : ℕ). getD after (48 * r .waiting + 4 + y) (pos 0)) (λ (y : ℕ). getD own y (pos 0)) (λ (y : ℕ). y < length own) ys ys-small
           (λ y l. pushed-value (r .waiting) saved own words own-bound room y l))
 
