@@ -25,7 +25,7 @@ use Rattle.bench.specs.declared.machine.Ran.{Ran}
 use Rattle.bench.specs.declared.machine.Answer.{Answer}
 use Rattle.bench_step.specs.MachineTables.{functionAt, varsOf, MachineTables}
 use Rattle.bench_step.specs.Machine.{framesOf, stateOf, Invariant}
-use Rattle.bench_step.specs.StepLaws.{length-frames, vars-bound}
+use Rattle.bench_step.specs.StepLaws.{length-frames}
 use Rattle.bench_step.specs.FrameStepLaws.{frames-same}
 use Rattle.bench.specs.RunResult.{stopOf, CanGoOn, RunResult}
 use Rattle.procedure_file.specs.FileInvariant.{Stands}

@@ -1,24 +1,25 @@
--- What an operation that stands at an offset tells of the rest of its block, and what loading gives the machine.
+-- What an operation that stands at an offset tells of its number and of the rest of its block, and what loading gives the machine.
 use Prim.Native.Nat.{ℕ, suc, _+_, _*_, _≤_, _<_}
 use native.Mathlib.Omega.{arith}
 use mathlib.Core.Path.{_≡_, refl, sym, ap, _∙_, subst}
 use mathlib.Core.List.{List}
 use mathlib.Core.Option.{some}
+use mathlib.Core.Logic.{_≢_}
+use lib.IntN.{ℤ}
 use lib.ListN.{length, getD, getElem?}
-use Rattle.semantics.specs.Program.{Labelled, functionOf}
+use Rattle.semantics.specs.Program.{Labelled}
 use Rattle.semantics.specs.ListLaws.{at-below, getD-at}
-use Rattle.parsing.specs.declared.Refusal.{Refusal}
 use Rattle.procedure_operations.specs.declared.operation.Operation.{Operation}
 use Rattle.procedure_operations.specs.declared.operation.Operation.the-variants.{Constant, Copy, Difference, Call, Goto, Return, Branch, Raise, Refused}
-use Rattle.procedure_layout.specs.declared.layout.After.{After}
+use Rattle.procedure_fields.specs.Number.{numberOf}
 use Rattle.procedure_operations.specs.Operation.{operationAt}
 use Rattle.procedure_file.specs.Check.{programOf}
 use Rattle.procedure_layout.specs.Rest.{restAt, restFrom}
 use Rattle.procedure_layout.specs.After.{afterOf}
-use Rattle.procedure_file.specs.Places.{startOf, blockOf, handlerOf, noLabelled}
+use Rattle.procedure_file.specs.Places.{startOf, noLabelled}
 use Rattle.procedure_file.specs.FileInvariant.{FileInvariant, Stands}
-use Rattle.procedure_file.specs.Tables.{Tables, BlockEntry, CountEntry}
-use Rattle.bench_step.specs.MachineTables.{functionAt, varsOf, MachineTables}
+use Rattle.procedure_file.specs.Tables.{Tables}
+use Rattle.bench_step.specs.MachineTables.{functionAt, MachineTables, SomeTables}
 
 -- Where the block goes on behind an operation that does not end it.
 abbrev pub GoesOn : List ℕ → ℕ → Operation → Type 0
@@ -49,6 +50,43 @@ goes-on {s} {f} {at} F S = by (operationAt s at) refl
 -- The rest of the block, once the operation is known.
 pub rest-is : {s : List ℕ} → FileInvariant s → (at : ℕ) (o : Operation) → operationAt s at ≡ o → restAt s at ≡ restFrom s at o (restAt s)
 rest-is {s} F at o e = F .rest at ∙ ap (λ (x : Operation). restFrom s at x (restAt s)) e
+
+-- The number of an operation that stands.
+pub numbered : {s : List ℕ} {f at : ℕ} → FileInvariant s → Stands s f at → (1 ≤ numberOf (operationAt s at)) × (numberOf (operationAt s at) ≤ 8)
+unfolding numberOf
+numbered {s} {f} {at} F S = by (operationAt s at) (goes-on F S)
+  where
+    by : (o : Operation) → GoesOn s f o → (1 ≤ numberOf o) × (numberOf o ≤ 8)
+    by (Constant x i n) g = (omega arith, omega arith)
+    by (Copy x y n) g = (omega arith, omega arith)
+    by (Difference x y z n) g = (omega arith, omega arith)
+    by (Call x h k n) g = (omega arith, omega arith)
+    by (Goto l n) g = (omega arith, omega arith)
+    by (Return x n) g = (omega arith, omega arith)
+    by (Branch y z l m n) g = (omega arith, omega arith)
+    by (Raise n) g = (omega arith, omega arith)
+    by (Refused e) g = absurd g
+
+from-five : {n : ℕ} → n ≢ 1 → n ≢ 2 → n ≢ 3 → n ≢ 4 → 1 ≤ n → 5 ≤ n
+from-five a b c d h = omega arith
+
+from-nine : {n : ℕ} → n ≢ 5 → n ≢ 6 → n ≢ 7 → n ≢ 8 → 5 ≤ n → 9 ≤ n
+from-nine a b c d h = omega arith
+
+-- No other number is met.
+pub no-number : {n m : ℕ} {A : Type 0} → n ≢ 1 → n ≢ 2 → n ≢ 3 → n ≢ 4 → n ≢ 5 → n ≢ 6 → n ≢ 7 → n ≢ 8 → n ≡ m → (1 ≤ m) × (m ≤ 8) → A
+no-number {n} a b c d e f g h q w =
+    absurd (by (from-nine e f g h (from-five a b c d (rw q (w .0)))) (rw q (w .1)))
+  where
+    by : 9 ≤ n → n ≤ 8 → ⊥
+    by k l = omega arith
+
+-- A value that went through a word.
+pub constant-as : {o : Operation} {x n : ℕ} {i v : ℤ} → o ≡ Constant x i n → v ≡ i → o ≡ Constant x v n
+constant-as {x = x} {n = n} e q = e ∙ ap (λ (z : ℤ). Constant x z n) (sym q)
+
+pub some-tables : {s starts handlers params locals : List ℕ} → MachineTables s starts handlers params locals → SomeTables s
+some-tables {starts = starts} {handlers = handlers} {params = params} {locals = locals} L = record { starts = starts; handlers = handlers; params = params; locals = locals; loaded = L }
 
 -- The tables of an accepted file.
 module _ {s starts handlers params locals blocks : List ℕ} (F : FileInvariant s) (T : Tables (programOf s) starts handlers params locals blocks) where

@@ -1,6 +1,6 @@
 -- `bench_step::step::call_or_deep` meets its contract.
 use native.Mathlib.Omega.{arith}
-use Rattle.bench_step.specs.MachineTablesLaws.{call-deep}
+use Rattle.bench_step.specs.CallLaws.{call-deep}
 use borrow.Author.Needs.{needs}
 use Rattle.bench_step.proofs.step.call_or_deep.Statement.{statement}
 use Rattle.bench_step.proofs.step.call_or_deep.Tie as tie

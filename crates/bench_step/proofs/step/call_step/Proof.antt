@@ -1,35 +1,25 @@
 -- `bench_step::step::call_step` meets its contract.
 use native.Mathlib.Omega.{arith}
-use mathlib.Core.Path.{refl}
-use Rattle.bench_step.specs.MachineTablesLaws.{call-safe, call-push, call-arguments, call-clear, call-done}
+use Rattle.bench_step.specs.CallLaws.{CallSafe, call-safe, call-push, call-arguments, call-clear, call-done}
 use borrow.Author.Needs.{needs}
 use Rattle.bench_step.proofs.step.call_step.Statement.{statement}
 use Rattle.bench_step.proofs.step.call_step.Tie as tie
 
--- Ways back to earlier places that several answers take.
-abbrev entry-before-byte-number : tie.After-byte-number → tie.Start
-entry-before-byte-number c = c .before .before .before .before
-
-abbrev entry-before-struct-known : tie.After-struct-known → tie.Start
-entry-before-struct-known c = c .before .before .before .before .before .before .before
+-- What is known of the call.
+safe : (c : tie.Start) → CallSafe (c .pre .0) (c .pre .1 .0) (c .pre .1 .1 .0)
+safe c = call-safe (c .pre .0) (c .pre .1 .0) (c .pre .1 .1 .0)
 
 variables-requires : tie.Need-variables-requires
-variables-requires c κs =
-    let entry = c .before in
-    call-safe (entry .pre .0) (entry .pre .1 .0) (entry .pre .1 .1 .0) .own
+variables-requires c κs = safe (c .before) .own
 
 element-copy-out-byte-number : tie.Need-element-copy-out-byte-number
-element-copy-out-byte-number c =
-    let entry = c .before .before in
-    call-safe (entry .pre .0) (entry .pre .1 .0) (entry .pre .1 .1 .0) .function
+element-copy-out-byte-number c = safe (c .before .before) .function
 
 byte-number-requires : tie.Need-byte-number-requires
 byte-number-requires c κs = search needs
 
 element-copy-out-byte-number-2 : tie.Need-element-copy-out-byte-number-2
-element-copy-out-byte-number-2 c =
-    let entry = entry-before-byte-number c in
-    call-safe (entry .pre .0) (entry .pre .1 .0) (entry .pre .1 .1 .0) .function
+element-copy-out-byte-number-2 c = safe (c .before .before .before .before) .function
 
 byte-number-requires-2 : tie.Need-byte-number-requires-2
 byte-number-requires-2 c κs = search needs
@@ -41,9 +31,7 @@ add-base : tie.Need-add-base
 add-base c = search needs
 
 add-from : tie.Need-add-from
-add-from c =
-    let entry = entry-before-struct-known c in
-    omega (arith, call-safe (entry .pre .0) (entry .pre .1 .0) (entry .pre .1 .1 .0) .place)
+add-from c = omega (arith, safe (c .before .before .before .before .before .before .before) .place)
 
 add-last : tie.Need-add-last
 add-last c = search needs
@@ -55,9 +43,7 @@ mul-offset-number : tie.Need-mul-offset-number
 mul-offset-number c = search needs
 
 element-copy-out-offset-number : tie.Need-element-copy-out-offset-number
-element-copy-out-offset-number c =
-    let entry = entry-before-struct-known c in
-    call-safe (entry .pre .0) (entry .pre .1 .0) (entry .pre .1 .1 .0) .table
+element-copy-out-offset-number c = safe (c .before .before .before .before .before .before .before) .table
 
 offset-number-requires : tie.Need-offset-number-requires
 offset-number-requires c κs = search needs
@@ -75,7 +61,7 @@ push-requires : tie.Need-push-requires
 push-requires c κs =
     let at-variables = c .before .before .before .before .before .before .before .before .before .before .before in
     let entry = at-variables .before .before in
-    call-push (entry .pre .0) (entry .pre .1 .0) (entry .pre .1 .1 .0) (at-variables .variables .ensures) (entry .pre .1 .1 .1 .1)
+    call-push (entry .pre .0) (entry .pre .1 .0) (entry .pre .1 .1 .0) (entry .pre .1 .1 .1 .1) (at-variables .variables .ensures)
 
 arguments-requires : tie.Need-arguments-requires
 arguments-requires c κs =
@@ -83,17 +69,18 @@ arguments-requires c κs =
     let at-byte-number = at-push .before .before .before .before .before .before .before .before .before .before in
     let at-variables = at-byte-number .before .before in
     let entry = at-variables .before .before in
-    call-arguments (entry .pre .0) (entry .pre .1 .0) (entry .pre .1 .1 .0) (at-variables .variables .ensures) (at-byte-number .byte-number .ensures .0) (entry .pre .1 .1 .1 .1)
-    (at-push .push .ensures)
+    call-arguments (entry .pre .0) (entry .pre .1 .0) (entry .pre .1 .1 .0) (entry .pre .1 .1 .1 .1) (at-variables .variables .ensures) (at-push .push .ensures)
+    (at-byte-number .byte-number .ensures .0)
 
 clear-requires : tie.Need-clear-requires
 clear-requires c κs =
     let at-push = c .before .before .before .before .before in
     let at-byte-number2 = at-push .before .before .before .before .before .before .before .before in
     let at-byte-number = at-byte-number2 .before .before in
-    let entry = entry-before-byte-number at-byte-number in
-    call-clear (entry .pre .0) (entry .pre .1 .0) (entry .pre .1 .1 .0) (at-push .push .last .0) (at-byte-number .byte-number .ensures .0)
-    (at-byte-number2 .byte-number2 .ensures .0) (c .before .arguments .ensures)
+    let at-variables = at-byte-number .before .before in
+    let entry = at-variables .before .before in
+    call-clear (entry .pre .0) (entry .pre .1 .0) (entry .pre .1 .1 .0) (entry .pre .1 .1 .1 .1) (at-variables .variables .ensures) (at-push .push .ensures)
+    (at-byte-number .byte-number .ensures .0) (c .before .arguments .ensures) (at-byte-number2 .byte-number2 .ensures .0)
 
 same-length : tie.Need-same-length
 same-length c = search needs
@@ -107,8 +94,8 @@ returns c =
     let at-variables = at-byte-number .before .before in
     let entry = at-variables .before .before in
     call-done (entry .pre .0) (entry .pre .1 .0) (entry .pre .1 .1 .0) (entry .pre .1 .1 .1 .1) (at-variables .variables .ensures) (at-push .push .ensures)
-    (at-byte-number .byte-number .ensures .0) (at-byte-number2 .byte-number2 .ensures .0) (c .before .before .arguments .ensures) (c .clear .ensures)
-    (at-offset-number .offset-number .ensures .0) refl
+    (at-byte-number .byte-number .ensures .0) (c .before .before .arguments .ensures) (at-byte-number2 .byte-number2 .ensures .0) (c .clear .ensures)
+    (at-offset-number .offset-number .ensures .0)
 
 pub call-step-spec : {M : Type 1} → statement M
 call-step-spec =

@@ -1,5 +1,5 @@
 -- `bench_step::step::goto_step` meets its contract.
-use Rattle.bench_step.specs.MachineTablesLaws.{goto-safe, goto-done}
+use Rattle.bench_step.specs.StepLaws.{goto-safe, goto-done}
 use Rattle.bench_step.proofs.step.goto_step.Statement.{statement}
 use Rattle.bench_step.proofs.step.goto_step.Tie as tie
 

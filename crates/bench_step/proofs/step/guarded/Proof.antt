@@ -1,10 +1,10 @@
 -- `bench_step::step::guarded` meets its contract: what is left to look through has the same newest frame with a handler as the whole.
-use Prim.Native.Nat.{ℕ, suc, _+_, _-_, _*_, _≤_, _<_}
+use Prim.Native.Nat.{suc, _-_, _≤_, _<_}
 use native.Mathlib.Omega.{arith}
-use mathlib.Core.Path.{_≡_, refl, sym, ap, _∙_, subst}
+use mathlib.Core.Path.{_≡_, refl, _∙_}
 use Rattle.semantics.specs.Matching.{newestGuarded}
 use Rattle.bench_step.specs.Machine.{framesOf}
-use Rattle.bench_step.specs.GuardLaws.{search-ready, search-found, search-on, search-ends}
+use Rattle.bench_step.specs.FrameStepLaws.{frame-ready, search-found, search-on, search-ends}
 use Rattle.bench_step.proofs.step.guarded.Statement.{statement}
 use Rattle.bench_step.proofs.step.guarded.Tie as tie
 
@@ -23,15 +23,15 @@ sub-d c = omega arith
 head-at-requires : tie.Need-head-at-requires Inv-loop μ-loop
 head-at-requires c κs =
     let entry = c .before .before .before in
-    search-ready (entry .pre) (omega arith) (c .before .loop .inv .0)
+    let l : c .before .loop .w - 1 < entry .args .r .waiting = omega (arith, c .before .loop .inv .0) in frame-ready (entry .pre) l
 
 returns : tie.Need-returns Inv-loop μ-loop
 returns c =
     let at-head-at = c .before .before in
     let at-loop = at-head-at .before .before in
     let entry = at-loop .before .before in
-    search-found (entry .args .file .now) (entry .args .words .now) (at-loop .loop .w) (at-head-at .head-at .result) (omega arith) (at-head-at .head-at .ensures)
-    (c .if1 .taken) ∙ at-loop .loop .inv .1
+    let q : at-loop .loop .w ≡ suc (at-loop .loop .w - 1) = omega arith in
+    search-found (entry .args .file .now) (entry .args .words .now) q (at-head-at .head-at .ensures) (c .if1 .taken) ∙ at-loop .loop .inv .1
 
 loop-less : tie.Need-loop-less Inv-loop μ-loop
 loop-less c = omega arith
@@ -40,17 +40,15 @@ loop-again : tie.Need-loop-again Inv-loop μ-loop
 loop-again c =
     let at-head-at = c .before .before in
     let at-loop = at-head-at .before .before in
-    let entry = at-loop .before .before in (
-      omega arith,
-      search-on (entry .args .file .now) (entry .args .words .now) (at-loop .loop .w) (at-head-at .head-at .result) (omega arith) (at-head-at .head-at .ensures)
-          (c .if1 .left) ∙ at-loop .loop .inv .1,
-    )
+    let entry = at-loop .before .before in
+    let q : at-loop .loop .w ≡ suc (at-loop .loop .w - 1) = omega arith in
+    (omega arith, search-on (entry .args .file .now) (entry .args .words .now) q (at-head-at .head-at .ensures) (c .if1 .left) ∙ at-loop .loop .inv .1)
 
 returns-2 : tie.Need-returns-2 Inv-loop μ-loop
 returns-2 c =
     let at-loop = c .before in
     let entry = at-loop .before .before in
-    search-ends (entry .args .file .now) (entry .args .words .now) (at-loop .loop .w) (omega arith) ∙ at-loop .loop .inv .1
+    search-ends (entry .args .file .now) (entry .args .words .now) (omega arith) ∙ at-loop .loop .inv .1
 
 pub guarded-spec : {M : Type 1} → statement M
 guarded-spec =

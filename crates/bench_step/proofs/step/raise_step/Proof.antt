@@ -1,6 +1,6 @@
 -- `bench_step::step::raise_step` meets its contract.
 use native.Mathlib.Omega.{arith}
-use Rattle.bench_step.specs.MachineTablesLaws.{raise-safe, raise-here, raise-uncaught}
+use Rattle.bench_step.specs.FrameStepLaws.{raise-safe, raise-here, raise-uncaught}
 use borrow.Author.Needs.{needs}
 use Rattle.bench_step.proofs.step.raise_step.Statement.{statement}
 use Rattle.bench_step.proofs.step.raise_step.Tie as tie
@@ -8,7 +8,7 @@ use Rattle.bench_step.proofs.step.raise_step.Tie as tie
 entered-requires : tie.Need-entered-requires
 entered-requires c κs =
     let entry = c .before .before in
-    raise-safe (entry .pre .0) (entry .pre .1 .0) (entry .pre .1 .1 .0) (c .if1 .taken)
+    raise-safe (entry .pre .0) (entry .pre .1 .0) (entry .pre .1 .1 .0)
 
 returns : tie.Need-returns
 returns c =
