@@ -1,0 +1,5 @@
+-- Runs of either machine, for any type of state. Definitions: Stopped (how a run ends and stops, as the code tells it), Tells (a verdict beside what
+-- an accepted call tells), Words (the lent words after a run).
+pub mod Stopped
+pub mod Tells
+pub mod Words
