@@ -58,35 +58,38 @@ callsThenRaises =
 pub data Row : Type 0 where
   -- A file, and the checker's answer.
   checks : List ℕ → Verdict → Row
-  -- File, arguments, depth, budget; the bytes of the translation; how both machines stop; bench steps, controller steps.
-  runs : List ℕ → List ℤ → ℕ → ℕ → ℕ → Stop (Unit {0}) → ℕ → ℕ → Row
+  -- A file and one byte, whatever byte it is, and the checker's answer.
+  checksWithOneMore : List ℕ → Verdict → Row
+  -- File, arguments, depth, budget; the bytes of the translation; how both machines stop; bench steps, extras, controller steps.
+  runs : List ℕ → List ℤ → ℕ → ℕ → ℕ → Stop (Unit {0}) → ℕ → ℕ → ℕ → Row
   -- y less z is.
   differs : ℤ → ℤ → ℤ → Row
 
 abbrev pub Holds : Row → Type 0
 Holds (checks s v) = checkOf s ≡ v
-Holds (runs s args depth budget target stop n m) = (x : ℕ) × (sidesTell s args depth budget 12288 8192 12288 ≡ tells target stop n x stop m)
+Holds (checksWithOneMore s v) = (b : ℕ) → checkOf (s ++ b ∷ []) ≡ v
+Holds (runs s args depth budget target stop n x m) = sidesTell s args depth budget 12288 8192 12288 ≡ tells target stop n x stop m
 Holds (differs y z v) = minus y z ≡ v
 
 abbrev pub table : List Row
 table =
-    runs fileT (pos 5 ∷ []) 256 100 106 (ended (value (pos 5))) 5 9
-    ∷ runs fileT (pos 0 ∷ []) 256 100 106 (ended (value (pos 7))) 6 11
-    ∷ runs fileT (pos 5 ∷ []) 0 100 106 (deep tt) 1 2
-    ∷ runs fileT (pos 5 ∷ []) 256 0 106 (spent tt) 0 1
-    ∷ runs fileT (pos 5 ∷ []) 256 4 106 (spent tt) 4 8
-    ∷ runs fileT (pos 5 ∷ []) 256 5 106 (ended (value (pos 5))) 5 9
+    runs fileT (pos 5 ∷ []) 256 100 106 (ended (value (pos 5))) 5 4 9
+    ∷ runs fileT (pos 0 ∷ []) 256 100 106 (ended (value (pos 7))) 6 5 11
+    ∷ runs fileT (pos 5 ∷ []) 0 100 106 (deep tt) 1 1 2
+    ∷ runs fileT (pos 5 ∷ []) 256 0 106 (spent tt) 0 1 1
+    ∷ runs fileT (pos 5 ∷ []) 256 4 106 (spent tt) 4 4 8
+    ∷ runs fileT (pos 5 ∷ []) 256 5 106 (ended (value (pos 5))) 5 4 9
     ∷ differs (negsuc 2147483647) (pos 1) (pos 2147483647)
     ∷ checks [] (refused 3 0)
     ∷ checks (0x53 ∷ 0x50 ∷ 0x47 ∷ []) (refused 1 2)
     ∷ checks (take 40 fileT) (refused 3 40)
-    ∷ checks (fileT ++ 0 ∷ []) (refused 4 41)
+    ∷ checksWithOneMore fileT (refused 4 41)
     ∷ checks (set fileT 11 3) (refused 8 11)
     ∷ checks (set fileT 28 2) (refused 10 15)
-    ∷ runs onlyRaises [] 256 100 12 (ended uncaught) 1 1
-    ∷ runs callsThenRaises [] 256 100 72 (ended (value (pos 0))) 5 8
+    ∷ runs onlyRaises [] 256 100 12 (ended uncaught) 1 0 1
+    ∷ runs callsThenRaises [] 256 100 72 (ended (value (pos 0))) 5 3 8
     ∷ []
 
 pub cases : All Holds table
 unfolding sidesTell controllerBudget sidesVerdict judgedCall wordsVerdict mainVerdict translationOf checkOf programOf Layout.program Layout.function Layout.heading Layout.labelled Layout.block Layout.walk Operation.operationAt Operation.constantAt Operation.copyAt Operation.differenceAt Operation.callAt Operation.gotoAt Operation.returnAt Operation.branchAt Operation.endAt Fields.version Fields.count Fields.ended Fields.valueOf Names.namesOf Writing.writing Target.codeOf TargetLayout.code TargetLayout.functions TargetLayout.function TargetLayout.expression TargetLayout.pair Tag.tagAt Tag.constantAt Tag.copyAt Tag.differenceAt Tag.jumpAt Tag.resumeAt Tag.handleAt Tag.branchAt Tag.continuationAt Tag.continuationWithHandlerAt TagNames.judged wrapped minus atMost step bench code translate controlStep controller extras
-cases = ((_, refl), ((_, refl), ((_, refl), ((_, refl), ((_, refl), ((_, refl), (refl, (refl, (refl, (refl, (refl, (refl, (refl, ((_, refl), ((_, refl), tt)))))))))))))))
+cases = (refl, (refl, (refl, (refl, (refl, (refl, (refl, (refl, (refl, (refl, ((λ b. refl), (refl, (refl, (refl, (refl, tt)))))))))))))))
