@@ -5,6 +5,7 @@ pub mod Bytes
 -- Laws.
 pub mod FieldLaws
 pub mod ParserLaws
+pub mod VerdictLaws
 pub mod BytesAtLaws
 pub mod ReadsLaws
 pub mod BytesLaws

@@ -1,5 +1,6 @@
 -- A reader of a part of a file: at an offset, what stands there and the offset past it, or a refusal.
 use Prim.Native.Nat.{ℕ, zero, suc}
+use mathlib.Core.Bool.{Bool, true, false}
 use mathlib.Core.List.{List, [], _∷_, _++_}
 use Rattle.parsing.specs.declared.Refusal.{Refusal}
 use Rattle.parsing.specs.declared.Scan.{Scan}
@@ -59,6 +60,11 @@ pub data Verdict : Type 0 where
 abbrev pub orElse : Verdict → Verdict → Verdict
 orElse accepted v = v
 orElse (refused n p) v = refused n p
+
+-- A refusal, unless a test holds.
+abbrev pub refusedUnless : Bool → ℕ → ℕ → Verdict
+refusedUnless true number place = accepted
+refusedUnless false number place = refused number place
 
 abbrev pub verdictOf : Checked → Verdict
 verdictOf Accepted = accepted

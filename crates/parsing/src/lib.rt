@@ -1,6 +1,6 @@
 // What files of both kinds are read with: refusals, the fields that they share, and the ends of parts.
 ghost use mathlib.Core.Path.{_≡_};
-ghost use Rattle.parsing.specs.Parser.{pastOf};
+ghost use Rattle.parsing.specs.Parser.{pastOf, orElse, refusedUnless, verdictOf};
 ghost use Rattle.parsing.specs.Fields.{valueOf, counted, count, marked, version, ended};
 
 // A refusal is a number and a place.
@@ -25,6 +25,26 @@ pub enum Count {
 pub enum Checked {
     Accepted,
     Refused(Refusal),
+}
+
+// The first of two answers that refuses.
+pub fn or_else(first: Checked, second: Checked) -> Checked
+    ensures { λ r. ⌜ verdictOf r ≡ orElse (verdictOf first) (verdictOf second) ⌝ }
+{
+    match first {
+        Checked::Accepted => second,
+        Checked::Refused(r) => Checked::Refused(r),
+    }
+}
+
+// A refusal, unless a test holds.
+pub fn refused_unless(holds: bool, number: u8, place: usize) -> Checked
+    ensures { λ r. ⌜ verdictOf r ≡ refusedUnless holds number place ⌝ }
+{
+    if holds {
+        return Checked::Accepted;
+    }
+    Checked::Refused(Refusal { number, place })
 }
 
 // The mark at the head of a file: its bytes are judged one by one.

@@ -3,3 +3,5 @@
 pub mod Stopped
 pub mod Tells
 pub mod Words
+-- Laws.
+pub mod TellsLaws
