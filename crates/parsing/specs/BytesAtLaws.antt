@@ -9,9 +9,10 @@ use borrow.Author.Tests.{ltb-true, ltb-false, leb-true, eqb-true}
 use lib.Dec.{leb, ltb, eqb}
 use lib.ListN.{length, getD, take, drop, length-append}
 use lib.Seq.{drop-cons}
-use Rattle.parsing.specs.Parser.{refusal, read, refuse, Parser, joined}
-use Rattle.parsing.specs.Fields.{cut, byte, marked, version, ended}
-use Rattle.parsing.specs.ParserLaws.{impossible, ReadMany, none, one}
+use Rattle.parsing.specs.declared.Scan.the-variants.{Past}
+use Rattle.parsing.specs.Parser.{refusal, Parsed, read, refuse, Parser, andThen, joined, pastOf}
+use Rattle.parsing.specs.Fields.{cut, byte, marked, version, head, ended}
+use Rattle.parsing.specs.ParserLaws.{impossible, sequence, ReadMany, none, one}
 
 -- The bytes w stand from `at` on, up to `next`.
 pub record BytesAt (s : List ℕ) (at next : ℕ) (w : List ℕ) : Type 0 where
@@ -69,6 +70,32 @@ module _ (s : List ℕ) where
           go₂ a b p r = rw (a, b, p) at r
       go true false i j w = impossible (cc)
       go false v i j w = impossible (cc)
+
+  -- A head that was read: the file is within the limit, and begins with the mark and the version.
+  pub read-head : (ms : List ℕ) (limit : ℕ) {u : Unit {0}} {next : ℕ} → head ms limit s 0 ≡ read u next
+      → (length s ≤ limit) × BytesAt s 0 next (ms ++ 1 ∷ 0 ∷ [])
+  unfolding head
+  read-head ms limit {u} {next} e = go (leb (length s) limit) refl e
+    where
+      go : (t : Bool) → leb (length s) limit ≡ t
+          → andThen {A = Unit {0}} (cond t (read tt 0) (refuse (refusal 15 limit))) (λ v m. andThen (marked ms s m) (λ w k. version s k)) ≡ read u next
+          → (length s ≤ limit) × BytesAt s 0 next (ms ++ 1 ∷ 0 ∷ [])
+      go true l w =
+          let a = sequence (marked ms s 0) (λ w k. version s k) w in
+          (leb-true (length s) limit l, bytes-at-join (bytes-at-marked ms 0 (a .reads)) (bytes-at-version (a .middle) (a .follows)))
+      go false l w = impossible (cc)
+
+  -- The same, from the offset past it.
+  pub past-head : (ms : List ℕ) (limit : ℕ) {next : ℕ} → pastOf (head ms limit s 0) ≡ Past next
+      → (length s ≤ limit) × (head ms limit s 0 ≡ read tt (length ms + 2))
+  past-head ms limit {next} e = go (head ms limit s 0) refl e
+    where
+      go : (x : Parsed (Unit {0})) → head ms limit s 0 ≡ x → pastOf x ≡ Past next → (length s ≤ limit) × (x ≡ read tt (length ms + 2))
+      go (read tt m) w f =
+          let r = read-head ms limit w in
+          let p : m ≡ length ms + 2 = omega (arith, r .1 .past, length-append ms (1 ∷ 0 ∷ [])) in
+          (r .0, ap (read tt) p)
+      go (refuse r) w f = impossible (cc)
 
   pub read-ended : (at : ℕ) {u : Unit {0}} {next : ℕ} → ended s at ≡ read u next → (length s ≤ at) × (next ≡ at)
   unfolding ended

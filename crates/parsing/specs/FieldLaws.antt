@@ -13,9 +13,11 @@ use lib.Seq.{drop-cons}
 use mir.Syntax.{w32}
 use mir.Val.{toZ, SFits}
 use mir.Facts.{toZ-pos, toZ-neg, sfits-toZ}
-use Rattle.parsing.specs.declared.Scan.the-variants.{Stopped}
+use Rattle.parsing.specs.declared.Refusal.{Refusal}
+use Rattle.parsing.specs.declared.Scan.the-variants.{Past, Stopped}
 use Rattle.parsing.specs.Parser.{refusal, read, refuse, pastOf}
-use Rattle.parsing.specs.Fields.{cut, marked, version}
+use Rattle.parsing.specs.Fields.{cut, marked, version, head}
+use Rattle.parsing.specs.ParserLaws.{past-read, past-refuse}
 
 module _ (ms s : List ℕ) (i : ℕ) where
   pub marked-short : i < length ms → length s ≤ i → pastOf (marked (drop i ms) s i) ≡ Stopped (cut s)
@@ -42,6 +44,20 @@ module _ (s : List ℕ) (at : ℕ) where
   pub version-right : at + 2 ≤ length s → getD s at 0 ≡ 1 → getD s (at + 1) 0 ≡ 0 → version s at ≡ read tt (at + 2)
   unfolding version
   version-right h a b = rw (le-leb (at + 2) (length s) h, a, b)
+
+-- The head.
+module _ (ms : List ℕ) (limit : ℕ) (s : List ℕ) where
+  pub head-long : limit < length s → Stopped (refusal 15 limit) ≡ pastOf (head ms limit s 0)
+  unfolding head
+  head-long h = rw (lt-leb (length s) limit h)
+
+  pub head-mark : length s ≤ limit → (r : Refusal) → pastOf (marked ms s 0) ≡ Stopped r → Stopped r ≡ pastOf (head ms limit s 0)
+  unfolding head
+  head-mark h r e = rw (le-leb (length s) limit h, past-refuse (marked ms s 0) e)
+
+  pub head-version : length s ≤ limit → (next : ℕ) → pastOf (marked ms s 0) ≡ Past next → pastOf (version s next) ≡ pastOf (head ms limit s 0)
+  unfolding head
+  head-version h next e = rw (le-leb (length s) limit h, past-read (marked ms s 0) e .is)
 
 -- A value with its highest bit set, as the function makes it.
 module _ (low h : ℕ) (small : low < 16777216) (set : 128 ≤ h) (byte : h < 256) where

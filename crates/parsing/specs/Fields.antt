@@ -1,4 +1,4 @@
--- The fields that files of both kinds share (document 01, 'What is turned down'), with the refusals 1 to 5.
+-- The fields that files of both kinds share (document 01, 'What is turned down'), with the refusals 1 to 5 and 15.
 use Prim.Native.Nat.{ℕ, _+_, _*_}
 use mathlib.Core.Bool.{cond}
 use mathlib.Core.List.{List, [], _∷_}
@@ -10,11 +10,12 @@ use mir.Val.{toZ}
 use Rattle.parsing.specs.declared.Refusal.{Refusal}
 use Rattle.parsing.specs.declared.Count.{Count}
 use Rattle.parsing.specs.declared.Count.the-variants.{Is, Outside}
-use Rattle.parsing.specs.Parser.{refusal, Parsed, read, refuse, Parser, andThen}
+use Rattle.parsing.specs.Refusals.{wrongMark, wrongVersion, endsEarly, leftOver, outOfRange, fileTooLong}
+use Rattle.parsing.specs.Parser.{refusal, Parsed, read, refuse, Parser, andThen, _>>=_}
 
 -- "3 file ends early (place: its length)."
 abbrev pub cut : List ℕ → Refusal
-cut s = refusal 3 (length s)
+cut s = refusal endsEarly (length s)
 
 abbrev pub byte : Parser ℕ
 byte s at = cond (ltb at (length s)) (read (getD s at 0) (at + 1)) (refuse (cut s))
@@ -23,20 +24,31 @@ byte s at = cond (ltb at (length s)) (read (getD s at 0) (at + 1)) (refuse (cut 
 abbrev pub marked : List ℕ → Parser (Unit {0})
 marked [] s at = read tt at
 marked (m ∷ ms) s at =
-    cond (ltb at (length s)) (cond (eqb (getD s at 0) m) (marked ms s (at + 1)) (refuse (refusal 1 at))) (refuse (cut s))
+    cond (ltb at (length s)) (cond (eqb (getD s at 0) m) (marked ms s (at + 1)) (refuse (refusal wrongMark at))) (refuse (cut s))
 
 -- "version (16 bits, 1)", judged once it is whole: "2 version".
 unfoldable pub version : Parser (Unit {0})
 version s at =
     cond (leb (at + 2) (length s))
-    (cond (eqb (getD s at 0 + 256 * getD s (at + 1) 0) 1) (read tt (at + 2)) (refuse (refusal 2 at)))
+    (cond (eqb (getD s at 0 + 256 * getD s (at + 1) 0) 1) (read tt (at + 2)) (refuse (refusal wrongVersion at)))
     (refuse (cut s))
+
+-- "15 file above its limit (.. place: the limit)."
+abbrev pub within : ℕ → Parser (Unit {0})
+within limit s at = cond (leb (length s) limit) (read tt at) (refuse (refusal fileTooLong limit))
+
+-- The head of a file, by its mark and its limit. "Order: 15; then 1 to 6": the size, the mark, the version.
+unfoldable pub head : List ℕ → ℕ → Parser (Unit {0})
+head mark limit = do
+  _ ← within limit
+  _ ← marked mark
+  version
 
 -- "5 count .. outside its range".
 unfoldable pub count : ℕ → ℕ → Parser ℕ
 count low high s at =
     andThen (byte s at)
-    (λ n next. cond (leb low n) (cond (leb n high) (read n next) (refuse (refusal 5 at))) (refuse (refusal 5 at)))
+    (λ n next. cond (leb low n) (cond (leb n high) (read n next) (refuse (refusal outOfRange at))) (refuse (refusal outOfRange at)))
 
 -- What the function that reads a count answers.
 abbrev pub counted : Parsed ℕ → Count
@@ -45,7 +57,7 @@ counted (refuse r) = Outside r
 
 -- "4 bytes left over."
 unfoldable pub ended : Parser (Unit {0})
-ended s at = cond (ltb at (length s)) (refuse (refusal 4 at)) (read tt at)
+ended s at = cond (ltb at (length s)) (refuse (refusal leftOver at)) (read tt at)
 
 -- "4-byte signed value", "the low byte first".
 unfoldable pub valueOf : ℕ → ℕ → ℕ → ℕ → ℤ

@@ -1,5 +1,6 @@
--- Reading a file of bytes. Definitions, in reading order: Parser, Fields, Bytes.
+-- Reading a file of bytes. Definitions, in reading order: Parser, Refusals, Fields, Bytes.
 pub mod Parser
+pub mod Refusals
 pub mod Fields
 pub mod Bytes
 -- Laws.
@@ -9,3 +10,4 @@ pub mod VerdictLaws
 pub mod BytesAtLaws
 pub mod ReadsLaws
 pub mod BytesLaws
+pub mod RowLaws

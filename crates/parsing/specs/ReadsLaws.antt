@@ -7,7 +7,7 @@ use borrow.Author.Tests.{lt-ltb, le-ltb, le-leb, eq-eqb}
 use lib.ListN.{length, getD, drop, length-append, length-drop}
 use lib.Seq.{drop-drop, drop-append-seam, getD-drop}
 use Rattle.parsing.specs.Parser.{read, Parser, andThen, many, joined}
-use Rattle.parsing.specs.Fields.{byte, marked, version, count, ended}
+use Rattle.parsing.specs.Fields.{byte, marked, version, head, count, ended}
 use Rattle.parsing.specs.ParserLaws.{byte-in}
 
 -- The bytes l stand from `at` on, to the end of the file.
@@ -86,6 +86,13 @@ reads-version = record { reads = go }
     go s at rest h =
         let l = length-here s at (1 ∷ 0 ∷ rest) h in
         rw (le-leb (at + 2) (length s) (omega arith), first-here s at (1 ∷ 0 ∷ rest) h, byte-here s at (1 ∷ 0 ∷ rest) h 1)
+
+pub reads-head : (ms : List ℕ) (limit : ℕ) (s rest : List ℕ) → s ≡ ms ++ (1 ∷ 0 ∷ rest) → length s ≤ limit → head ms limit s 0 ≡ read tt (length ms + 2)
+unfolding head
+reads-head ms limit s rest e h =
+    let p : 0 + length ms ≡ length ms = omega arith in
+    rw (le-leb (length s) limit h, reads-marked ms .reads s 0 (1 ∷ 0 ∷ rest) e, p)
+    (reads-version .reads s (length ms) rest (ap (λ (k : ℕ). drop k s) (sym p) ∙ behind s 0 ms (1 ∷ 0 ∷ rest) e))
 
 pub reads-ended : (s : List ℕ) (at : ℕ) → length s ≤ at → ended s at ≡ read tt at
 unfolding ended

@@ -1,0 +1,70 @@
+-- The numbers of refusals (document 01, 'What is turned down, by who can cause it').
+use Prim.Native.Nat.{ℕ}
+
+-- "1 wrong mark byte."
+abbrev pub wrongMark : ℕ
+wrongMark = 1
+
+-- "2 version."
+abbrev pub wrongVersion : ℕ
+wrongVersion = 2
+
+-- "3 file ends early (place: its length)."
+abbrev pub endsEarly : ℕ
+endsEarly = 3
+
+-- "4 bytes left over."
+abbrev pub leftOver : ℕ
+leftOver = 4
+
+-- "5 count of functions, parameters, locals or blocks outside its range, or a 17th level (at its first tag ..)."
+abbrev pub outOfRange : ℕ
+outOfRange = 5
+
+-- "6 unknown operation or tag."
+abbrev pub unknown : ℕ
+unknown = 6
+
+-- "7 no such variable."
+abbrev pub missingVariable : ℕ
+missingVariable = 7
+
+-- "8 no such label or handler label."
+abbrev pub missingLabel : ℕ
+missingLabel = 8
+
+-- "9 no such function."
+abbrev pub missingFunction : ℕ
+missingFunction = 9
+
+-- "10 argument count unlike the callee's (at the count)."
+abbrev pub calleeArity : ℕ
+calleeArity = 10
+
+-- "11 slot unbound or of another kind."
+abbrev pub unboundSlot : ℕ
+unboundSlot = 11
+
+-- "12 length unlike the part read."
+abbrev pub wrongLength : ℕ
+wrongLength = 12
+
+-- "13 slot above 35, or tag 9 with equal slots for both (at the handler slot)."
+abbrev pub wrongSlot : ℕ
+wrongSlot = 13
+
+-- "14 argument count unlike function 0's."
+abbrev pub mainArity : ℕ
+mainArity = 14
+
+-- "15 file above its limit (32,768; translated 65,535; place: the limit)."
+abbrev pub fileTooLong : ℕ
+fileTooLong = 15
+
+-- "16 depth above 256, or a lent buffer too short (48 words of 32 bits per frame; the whole translation)."
+abbrev pub noRoom : ℕ
+noRoom = 16
+
+-- "17 translation above 65,535 bytes." "Places of 14, 16 and 17 are 0."
+abbrev pub translationTooLong : ℕ
+translationTooLong = 17

@@ -1,0 +1,36 @@
+// The numbers of refusals (document 01, 'What is turned down, by who can cause it').
+
+// "1 wrong mark byte."
+pub const WRONG_MARK: u8 = 1;
+// "2 version."
+pub const WRONG_VERSION: u8 = 2;
+// "3 file ends early (place: its length)."
+pub const ENDS_EARLY: u8 = 3;
+// "4 bytes left over."
+pub const LEFT_OVER: u8 = 4;
+// "5 count of functions, parameters, locals or blocks outside its range, or a 17th level (at its first tag ..)."
+pub const OUT_OF_RANGE: u8 = 5;
+// "6 unknown operation or tag."
+pub const UNKNOWN: u8 = 6;
+// "7 no such variable."
+pub const MISSING_VARIABLE: u8 = 7;
+// "8 no such label or handler label."
+pub const MISSING_LABEL: u8 = 8;
+// "9 no such function."
+pub const MISSING_FUNCTION: u8 = 9;
+// "10 argument count unlike the callee's (at the count)."
+pub const CALLEE_ARITY: u8 = 10;
+// "11 slot unbound or of another kind."
+pub const UNBOUND_SLOT: u8 = 11;
+// "12 length unlike the part read."
+pub const WRONG_LENGTH: u8 = 12;
+// "13 slot above 35, or tag 9 with equal slots for both (at the handler slot)."
+pub const WRONG_SLOT: u8 = 13;
+// "14 argument count unlike function 0's."
+pub const MAIN_ARITY: u8 = 14;
+// "15 file above its limit (32,768; translated 65,535; place: the limit)."
+pub const FILE_TOO_LONG: u8 = 15;
+// "16 depth above 256, or a lent buffer too short (48 words of 32 bits per frame; the whole translation)."
+pub const NO_ROOM: u8 = 16;
+// "17 translation above 65,535 bytes." "Places of 14, 16 and 17 are 0."
+pub const TRANSLATION_TOO_LONG: u8 = 17;
