@@ -19,6 +19,10 @@ pub data Frame : Type 0 where
 pub data State : Type 0 where
   state : FunctionNumber → Handler → Block → List ℤ → List Frame → State
 
+-- How many frames are waiting.
+abbrev pub waiting : State → ℕ
+waiting (state f h b vs fs) = length fs
+
 -- The rule goes on with what is there, and does not fit where it is missing.
 abbrev pub given : {A S : Type 0} → Option A → (A → Outcome S) → Outcome S
 given none rule = stuck
@@ -65,9 +69,9 @@ raised P f (suc l) vs fs = enter P f (suc l) vs fs
 abbrev pub begun : FunctionNumber → Function → List ℤ → List Frame → State
 begun f F args fs = state f 0 (F .entry) (args ++ replicate (F .locals) (pos 0)) fs
 
--- A step that makes a frame is not taken while the limit is already waiting.
+-- A step that makes a frame, with n waiting, is not taken while the limit is already waiting.
 abbrev pub within : {S : Type 0} → ℕ → ℕ → Outcome S → Outcome S
-within d waiting o = cond (leb d waiting) tooDeep o
+within d n o = cond (leb d n) tooDeep o
 
 -- One step of the bench, under the depth limit d. Each operation is one step.
 unfoldable pub step : Program → ℕ → State → Outcome State

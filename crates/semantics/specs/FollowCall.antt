@@ -12,13 +12,12 @@ use lib.ListN.{length, getElem?, replicate, length-append, length-map, length-re
 use lib.Seq.{append-snoc}
 use Rattle.semantics.specs.Program.{FunctionNumber, Variable, Handler, Block, constant, copy, difference, call, goto, return, branch, raise, Function, Program, variables, noFunction, functionOf}
 use Rattle.semantics.specs.Run.{Outcome, next, tooDeep}
-use Rattle.semantics.specs.Bench.{Frame, frame, State, state, given, valuesOf, begun, within, step}
+use Rattle.semantics.specs.Bench.{Frame, frame, State, state, waiting, given, valuesOf, begun, within, step}
 use Rattle.semantics.specs.WellFormed.{All, WellFormed, WellFormedPlace, WellFormedFrame, WellFormedState}
 use Rattle.semantics.specs.Code.{Slot, Expr, jump, Target}
 use Rattle.semantics.specs.Controller.{unbound, whole, continuation, handler, Environment, bindingAt, put, bind, asContinuation, asHandler, wholesOf, Record, closure, control, parameters, controlStep}
 use Rattle.semantics.specs.Translation.{slotOf, code, bindZeros, entryTarget, number}
 use Rattle.semantics.specs.Matching.{newestGuarded, bodyLeft, handlerBody}
-use Rattle.semantics.specs.Statement.{waiting}
 use Rattle.semantics.specs.ListLaws.{at-getD, put-same, put-other, put-end, map-append-one}
 use Rattle.semantics.specs.TranslationLaws.{entry-at}
 use Rattle.semantics.specs.MatchingLaws.{slotsOf, recordsOf, matching, length-records, matching-matches}

@@ -4,7 +4,8 @@ use mathlib.Core.List.{List, []}
 use lib.IntN.{ℤ}
 use lib.ListN.{getD}
 
--- Function numbers and variable numbers are two sets with nothing in common; labels are a third. Main is function 0.
+-- "Function numbers and variable numbers are two sets with nothing in common": both are plain numbers here, as labels are, and the place of a number
+-- in an operation says which it is. Main is function 0.
 abbrev pub FunctionNumber : Type 0
 FunctionNumber = ℕ
 
@@ -31,6 +32,17 @@ pub data Block : Type 0 where
   branch : Variable → Variable → Label → Label → Block  -- 7  if y ≤ z then L1 else L2
   raise : Block  -- 8  raise
 
+-- Operation 4.
+abbrev pub IsCall : Block → Type 0
+IsCall (constant x i b) = ⊥
+IsCall (copy x y b) = ⊥
+IsCall (difference x y z b) = ⊥
+IsCall (call x g ys b) = Unit {0}
+IsCall (goto l) = ⊥
+IsCall (return x) = ⊥
+IsCall (branch y z l m) = ⊥
+IsCall raise = ⊥
+
 -- L(H) : B
 pub record Labelled : Type 0 where
   pub handler : Handler
@@ -54,6 +66,6 @@ variables F = F .params + F .locals
 abbrev pub noFunction : Function
 noFunction = record { params = 0; locals = 0; entry = raise; blocks = [] }
 
--- Function f of P. Everything below asks this only of functions that are there.
+-- Function f of P. A well-formed program or state asks this only of functions that are there.
 abbrev pub functionOf : Program → FunctionNumber → Function
 functionOf P f = getD P f noFunction

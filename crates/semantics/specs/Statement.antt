@@ -6,61 +6,21 @@ use mathlib.Core.Logic.{_↔_}
 use mathlib.Core.List.{List}
 use lib.IntN.{ℤ}
 use lib.ListN.{length}
-use Rattle.semantics.specs.Program.{FunctionNumber, Block, constant, copy, difference, call, goto, return, branch, raise, Program, variables, functionOf}
-use Rattle.semantics.specs.Run.{End, Stop, ended, spent, deep, broken, Result, told}
-use Rattle.semantics.specs.Bench.{State, state, bench}
-use Rattle.semantics.specs.WellFormed.{All, WellFormed}
-use Rattle.semantics.specs.Code.{Expr, letConstant, letSlot, letDifference, jump, resume, handle, ifAtMost, letContinuation, letContinuationWithHandler, Code}
-use Rattle.semantics.specs.Controller.{Control, control, controller, targetOf}
+use Rattle.semantics.specs.Program.{FunctionNumber, IsCall, Program, variables, functionOf}
+use Rattle.semantics.specs.Run.{End, stuck, Stop, deep, Result, told, IsDeep, IsSpent, IsBroken, EndsWith, Forever}
+use Rattle.semantics.specs.Bench.{State, state, waiting, bench}
+use Rattle.semantics.specs.WellFormed.{All, WellFormed, WellFormedState}
+use Rattle.semantics.specs.Code.{Slot, resume, handle, MakesRecord, Code}
+use Rattle.semantics.specs.Controller.{continuation, handler, Environment, bindingAt, Record, Control, control, inUse, controlStep, controller, targetOf}
 use Rattle.semantics.specs.SlotRules.{KeepsSlotRules}
+use Rattle.semantics.specs.SlotStates.{StateKeeps}
 use Rattle.semantics.specs.Translation.{slotOf, number, translate}
 use Rattle.semantics.specs.Extras.{extras}
 use Rattle.semantics.specs.Matching.{going, holding, HoldingsMatch, Matches}
 
-abbrev pub IsCall : Block → Type 0
-IsCall (constant x i b) = ⊥
-IsCall (copy x y b) = ⊥
-IsCall (difference x y z b) = ⊥
-IsCall (call x g ys b) = Unit {0}
-IsCall (goto l) = ⊥
-IsCall (return x) = ⊥
-IsCall (branch y z l m) = ⊥
-IsCall raise = ⊥
-
--- Tag 8 or 9.
-abbrev pub MakesRecord : Expr → Type 0
-MakesRecord (letConstant x i e) = ⊥
-MakesRecord (letSlot x y e) = ⊥
-MakesRecord (letDifference x y z e) = ⊥
-MakesRecord (jump g k h ss) = ⊥
-MakesRecord (resume k y) = ⊥
-MakesRecord (handle h) = ⊥
-MakesRecord (ifAtMost y z e₁ e₂) = ⊥
-MakesRecord (letContinuation x p e k) = Unit {0}
-MakesRecord (letContinuationWithHandler x p t e h k) = Unit {0}
-
 -- The same call: states match, the bench at a call and the controller at the tag 8 or 9 that it became.
 abbrev pub SameCall : Program → State → Control → Type 0
 SameCall P (state f h b vs fs) (control e env rs) = Matches P (state f h b vs fs) (control e env rs) × IsCall b × MakesRecord e
-
--- A run, as a function of its budget, ends with e; stops deep; runs on for ever: no end and no deep stop at any budget.
-abbrev pub EndsWith : {S : Type 0} → (ℕ → Result S) → End → Type 0
-EndsWith R e = (n : ℕ) × (R n .stop ≡ ended e)
-
-abbrev pub IsDeep : {S : Type 0} → Stop S → Type 0
-IsDeep (ended e) = ⊥
-IsDeep (spent s) = ⊥
-IsDeep (deep s) = Unit {0}
-IsDeep (broken s) = ⊥
-
-abbrev pub IsSpent : {S : Type 0} → Stop S → Type 0
-IsSpent (ended e) = ⊥
-IsSpent (spent s) = Unit {0}
-IsSpent (deep s) = ⊥
-IsSpent (broken s) = ⊥
-
-abbrev pub Forever : {S : Type 0} → (ℕ → Result S) → Type 0
-Forever R = (n : ℕ) → IsSpent (R n .stop)
 
 -- Two runs stopped alike: with the same value, uncaught, spent or deep; in matching states, variable for variable and waiting call for
 -- waiting call; deep at the same call.
@@ -94,32 +54,30 @@ Demand3 = (P : Program) → WellFormed P → (f : FunctionNumber) → f < length
     → (args : List ℤ) → length args ≡ functionOf P f .params → (d : ℕ)
     → Agree P (bench P f args d) (extras P f args d) (controller (translate P) (number P f) args d)
 
--- A run is never stuck, and no more than d frames (records) are ever in use.
-abbrev pub IsBroken : {S : Type 0} → Stop S → Type 0
-IsBroken (ended e) = ⊥
-IsBroken (spent s) = ⊥
-IsBroken (deep s) = ⊥
-IsBroken (broken s) = Unit {0}
-
-abbrev pub waiting : State → ℕ
-waiting (state f h b vs fs) = length fs
-
-abbrev pub inUse : Control → ℕ
-inUse (control e env rs) = length rs
-
-pub record Sound {S : Type 0} (frames : S → ℕ) (d : ℕ) (R : ℕ → Result S) : Type 0 where
+-- Theorem 1 of source document 003 over a whole run R, for either machine: R is never stuck, and the invariant holds of each state that it reaches,
+-- with no more than d frames (records) in use.
+pub record Sound {S : Type 0} (Invariant : S → Type 0) (frames : S → ℕ) (d : ℕ) (R : ℕ → Result S) : Type 0 where
   pub moves : (n : ℕ) → ¬ IsBroken (R n .stop)
+  pub invariant : (n : ℕ) (s : S) → holding (R n .stop) ≡ going s → Invariant s
   pub limit : (n : ℕ) (s : S) → holding (R n .stop) ≡ going s → frames s ≤ d
 
--- Each step of the bench has a next step or a named end, for every well-formed program.
+-- Each step of the bench has a next step or a named end, for every well-formed program. Each state is well-formed: it has as many variables as its
+-- function, and so has each frame.
 abbrev pub BenchSound : Type 0
 BenchSound = (P : Program) → WellFormed P → (f : FunctionNumber) → f < length P
-    → (args : List ℤ) → length args ≡ functionOf P f .params → (d : ℕ) → Sound waiting d (bench P f args d)
+    → (args : List ℤ) → length args ≡ functionOf P f .params → (d : ℕ) → Sound (WellFormedState P) waiting d (bench P f args d)
 
--- Each step of the controller has a next step or a named end, for every code that keeps the slot rules, hand-written code too.
+-- Each step of the controller has a next step or a named end, for every code that keeps the slot rules, hand-written code too. Each state keeps them.
 abbrev pub ControllerSound : Type 0
 ControllerSound = (m : ℕ) (Q : Code) → KeepsSlotRules m Q → (g : ℕ) → g < length Q
-    → (args : List ℤ) → length args ≡ targetOf Q g .params → (d : ℕ) → Sound inUse d (controller Q g args d)
+    → (args : List ℤ) → length args ≡ targetOf Q g .params → (d : ℕ) → Sound (StateKeeps Q m) inUse d (controller Q g args d)
+
+-- Where a slot leads past the records in use, tags 5 and 6 are stuck: so ControllerSound says too that what is applied is a record in use, never one
+-- that was dropped.
+abbrev pub DroppedStuck : Type 0
+DroppedStuck = (Q : Code) (d n : ℕ) (k y : Slot) (env : Environment) (rs : List Record) → length rs < n
+    → (bindingAt env k ≡ continuation n → controlStep Q d (control (resume k y) env rs) ≡ stuck)
+    × (bindingAt env k ≡ handler n → controlStep Q d (control (handle k) env rs) ≡ stuck)
 
 -- The translation of a well-formed program keeps the slot rules, and names only functions that exist, with their argument counts.
 abbrev pub TranslationKeepsRules : Type 0

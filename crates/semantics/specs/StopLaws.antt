@@ -3,16 +3,20 @@ use Prim.Native.Nat.{ℕ, zero, suc, _+_, _*_, _≤_, _<_}
 use native.Mathlib.Omega.{arith}
 use native.Mathlib.Nat.{add-zero}
 use mathlib.Core.Path.{_≡_, refl, sym, ap, _∙_, subst}
+use mathlib.Core.Logic.{_↔_}
+use mathlib.Core.Bool.{Bool, true, false}
 use mathlib.Core.List.{List, [], _∷_}
+use lib.Dec.{leb}
+use borrow.Author.Tests.{leb-true, leb-false}
 use lib.IntN.{ℤ}
 use Rattle.semantics.specs.Program.{constant, copy, difference, call, goto, return, branch, raise, Program, functionOf}
-use Rattle.semantics.specs.Run.{End, Outcome, next, end, tooDeep, stuck, Stop, ended, spent, deep, broken, Result, told, oneMoreIfDeep, after, added, run, total}
+use Rattle.semantics.specs.Run.{End, Outcome, next, end, tooDeep, stuck, Stop, ended, spent, deep, broken, IsSpent, IsDeep, IsBroken, Result, told, oneMoreIfDeep, spentIfDeep, after, added, run, total}
 use Rattle.semantics.specs.Bench.{Frame, frame, State, state, begun, step, bench}
 use Rattle.semantics.specs.Controller.{Control, control, started, controlStep, controller}
 use Rattle.semantics.specs.Code.{Code}
 use Rattle.semantics.specs.Extras.{caught, caughtOutside, extra, extras}
 use Rattle.semantics.specs.Matching.{over, going, holding, HoldingsMatch}
-use Rattle.semantics.specs.Statement.{SameCall, IsDeep, IsBroken, StopsMatch, Agree}
+use Rattle.semantics.specs.Statement.{SameCall, StopsMatch, Agree}
 use Rattle.semantics.specs.RunLaws.{IsLast, last, Goes, Ran, ran-spent, ran-last, ran, run-spent, run-last, run-deep}
 
 -- ── A run takes no more steps than its budget, fewer where it stops deep, and stops deep with one more than its steps ────
@@ -115,6 +119,26 @@ pub controller-left : (Q : Code) (g : ℕ) (args : List ℤ) (d n : ℕ) → IsD
 unfolding controller
 controller-left Q g args d n h = early (controlStep Q d) n (started Q g args) .left h
 
+-- ── A stop that is deep ─────────────────────────────────────────────────────────────────────────
+
+deep-state : {S : Type 0} (x : Stop S) → IsDeep x → (s : S) × (x ≡ deep s)
+deep-state (ended e) d = absurd d
+deep-state (spent s) d = absurd d
+deep-state (deep s) d = (s, refl)
+deep-state (broken s) d = absurd d
+
+deep-not-spent : {S : Type 0} (x : Stop S) → IsDeep x → ¬ IsSpent x
+deep-not-spent {S} x d i = subst (λ (y : Stop S). IsSpent y) (deep-state x d .1) i
+
+pub deep-told : {S : Type 0} (x : Stop S) → IsDeep x ↔ (told x ≡ deep tt)
+deep-told {S} x = (λ d. ap (λ (y : Stop S). told y) (deep-state x d .1), λ e. back x (subst (λ (y : Stop (Unit {0})). IsDeep y) (sym e) tt))
+  where
+    back : (y : Stop S) → IsDeep (told y) → IsDeep y
+    back (ended e) d = d
+    back (spent s) d = d
+    back (deep s) d = d
+    back (broken s) d = d
+
 -- ── The two runs of one call ────────────────────────────────────────────────────────────────────
 
 module _ (P : Program) where
@@ -149,11 +173,50 @@ pub record Together (P : Program) (b : Result State) (x : ℕ) (C : ℕ → Resu
   pub stops : StopsMatch P (b .stop) (C (b .steps + x + oneMoreIfDeep (b .stop)) .stop)
   pub steps : C (b .steps + x + oneMoreIfDeep (b .stop)) .steps ≡ b .steps + x
 
+-- The controller got exactly bench steps + extras: it took them all, and stopped as the bench did, but spent where the bench stopped deep.
+-- With one step more for each, one stops deep exactly when the other does, both with the steps and the extras that they had.
+pub record Exactly (B : ℕ → Result State) (X : ℕ → ℕ) (C : ℕ → Result Control) (n : ℕ) : Type 0 where
+  pub stop : told (C (B n .steps + X n) .stop) ≡ spentIfDeep (told (B n .stop))
+  pub steps : C (B n .steps + X n) .steps ≡ B n .steps + X n
+  pub sameDeep : (told (B (B n .steps + 1) .stop) ≡ deep tt) ↔ (told (C (B n .steps + X n + 1) .stop) ≡ deep tt)
+  pub deepSteps : told (B (B n .steps + 1) .stop) ≡ deep tt
+      → (B (B n .steps + 1) .steps ≡ B n .steps) × (X (B n .steps + 1) ≡ X n) × (C (B n .steps + X n + 1) .steps ≡ B n .steps + X n)
+
 module _ (P : Program) {B : ℕ → Result State} {X : ℕ → ℕ} {C : ℕ → Result Control} (A : Agree P B X C)
     (sound : (n : ℕ) → ¬ IsBroken (B n .stop)) (controls : (n : ℕ) → ¬ IsBroken (C n .stop))
     (again : (n : ℕ) → IsDeep (B n .stop) → B (B n .steps + 1) ≡ B n) (left : (n : ℕ) → IsDeep (C n .stop) → C n .steps < n) where
   not-deep : (n : ℕ) → ¬ IsDeep (C (B n .steps + X n) .stop)
   not-deep n d = let l : C (B n .steps + X n) .steps < B n .steps + X n = left (B n .steps + X n) d in let e : C (B n .steps + X n) .steps ≡ B n .steps + X n = A .counted n in absurd (omega arith)
+
+  -- Deep with one step more for each.
+  deep-steps : (n : ℕ) → IsDeep (B (B n .steps + 1) .stop)
+      → (B (B n .steps + 1) .steps ≡ B n .steps) × IsDeep (C (B n .steps + X n + 1) .stop) × (C (B n .steps + X n + 1) .steps ≡ B n .steps + X n)
+  deep-steps n d =
+      let f = A .sameDeep n .0 d in
+      let s = deep-state (B (B n .steps + 1) .stop) d in
+      let c = deep-state (C (B n .steps + X n + 1) .stop) f in
+      let q = A .sameCall n (s .0) (c .0) (s .1) (c .1) in
+      (q .1, f, q .2)
+
+  -- The controller stops deep after one number of steps only.
+  same-count : (a b : ℕ) → IsDeep (C (a + 1) .stop) → C (a + 1) .steps ≡ a → C (b + 1) .steps ≡ b → a ≤ b → a ≡ b
+  same-count a b d ea eb l =
+      sym ea ∙ (ap (λ (r : Result Control). r .steps) (sym (A .controllerStays (a + 1) (b + 1) (deep-not-spent (C (a + 1) .stop) d) (omega arith))) ∙ eb)
+
+  same-extras : (n : ℕ) → IsDeep (B (B n .steps + 1) .stop) → X (B n .steps + 1) ≡ X n
+  same-extras n d =
+      let m : ℕ = B n .steps + 1 in
+      let u = deep-steps n d in
+      let v = deep-steps m (subst (λ (r : Result State). IsDeep (r .stop)) (sym (again m d)) d) in
+      by (B n .steps) (X n) (B m .steps) (X m) (u .0) (u .1) (u .2) (v .1) (v .2) (leb (B n .steps + X n) (B m .steps + X m)) refl
+    where
+      by : (k x j y : ℕ) → j ≡ k → IsDeep (C (k + x + 1) .stop) → C (k + x + 1) .steps ≡ k + x → IsDeep (C (j + y + 1) .stop) → C (j + y + 1) .steps ≡ j + y
+          → (c : Bool) → leb (k + x) (j + y) ≡ c → y ≡ x
+      by k x j y e dk ek dj ej true l = let q : k + x ≡ j + y = same-count (k + x) (j + y) dk ek ej (leb-true (k + x) (j + y) l) in omega arith
+      by k x j y e dk ek dj ej false l =
+          let h : j + y < k + x = leb-false (k + x) (j + y) l in
+          let q : j + y ≡ k + x = same-count (j + y) (k + x) dj ej ek (omega arith) in
+          omega arith
 
   module _ (n : ℕ) where
     with-none : (x : Stop State) → B n .stop ≡ x → oneMoreIfDeep x ≡ 0 → StopsMatch P x (C (B n .steps + X n) .stop) → Together P (B n) (X n) C
@@ -168,28 +231,44 @@ module _ (P : Program) {B : ℕ → Result State} {X : ℕ → ℕ} {C : ℕ →
     with-one S e =
         let d : IsDeep (B n .stop) = subst (λ (y : Stop State). IsDeep y) (sym e) tt in
         let r : B (B n .steps + 1) ≡ B n = again n d in
-        let f : IsDeep (C (B n .steps + X n + 1) .stop) = A .sameDeep n .0 (subst (λ (y : Result State). IsDeep (y .stop)) (sym r) d) in
+        let f = deep-steps n (subst (λ (y : Result State). IsDeep (y .stop)) (sym r) d) in
         let q : B n .steps + X n + oneMoreIfDeep (B n .stop) ≡ B n .steps + X n + 1 = ap (λ (y : Stop State). B n .steps + X n + oneMoreIfDeep y) e in
         let p : B (B n .steps + 1) .stop ≡ deep S = ap (λ (y : Result State). y .stop) r ∙ e in
         record {
-          stops = subst (λ (y : Stop State). StopsMatch P y (C (B n .steps + X n + oneMoreIfDeep (B n .stop)) .stop)) (sym e) (subst (λ (k : ℕ). StopsMatch P (deep S) (C k .stop)) (sym q) (match-deep P S (C (B n .steps + X n + 1) .stop) f (λ (D : Control) g. A .sameCall n S D p g .0)));
-          steps = ap (λ (k : ℕ). C k .steps) q ∙ last-steps S p (C (B n .steps + X n + 1) .stop) refl f;
+          stops = subst (λ (y : Stop State). StopsMatch P y (C (B n .steps + X n + oneMoreIfDeep (B n .stop)) .stop)) (sym e) (subst (λ (k : ℕ). StopsMatch P (deep S) (C k .stop)) (sym q) (match-deep P S (C (B n .steps + X n + 1) .stop) (f .1) (λ (D : Control) g. A .sameCall n S D p g .0)));
+          steps = ap (λ (k : ℕ). C k .steps) q ∙ f .2;
         }
-      where
-        last-steps : (T : State) → B (B n .steps + 1) .stop ≡ deep T → (y : Stop Control) → C (B n .steps + X n + 1) .stop ≡ y → IsDeep y → C (B n .steps + X n + 1) .steps ≡ B n .steps + X n
-        last-steps T p (ended x) g d = absurd d
-        last-steps T p (spent c) g d = absurd d
-        last-steps T p (deep c) g d = A .sameCall n T c p g .2
-        last-steps T p (broken c) g d = absurd d
+
+    -- What the controller holds with exactly bench steps + extras.
+    matched : (x : Stop State) → B n .stop ≡ x → HoldingsMatch P (holding x) (holding (C (B n .steps + X n) .stop))
+    matched x e = subst (λ (y : Stop State). HoldingsMatch P (holding y) (holding (C (B n .steps + X n) .stop))) e (A .matching n)
+
+    -- Where the bench is still going, the controller is spent.
+    still-going : (S : State) → HoldingsMatch P (going S) (holding (C (B n .steps + X n) .stop)) → StopsMatch P (spent S) (C (B n .steps + X n) .stop)
+    still-going S h = match-spent P S (C (B n .steps + X n) .stop) (not-deep n) (controls (B n .steps + X n)) h
 
     pub together : Together P (B n) (X n) C
     together = by (B n .stop) refl
       where
-        matched : (x : Stop State) → B n .stop ≡ x → HoldingsMatch P (holding x) (holding (C (B n .steps + X n) .stop))
-        matched x e = subst (λ (y : Stop State). HoldingsMatch P (holding y) (holding (C (B n .steps + X n) .stop))) e (A .matching n)
-
         by : (x : Stop State) → B n .stop ≡ x → Together P (B n) (X n) C
         by (ended e) q = with-none (ended e) q refl (match-ended P e (C (B n .steps + X n) .stop) (matched (ended e) q))
-        by (spent S) q = with-none (spent S) q refl (match-spent P S (C (B n .steps + X n) .stop) (not-deep n) (controls (B n .steps + X n)) (matched (spent S) q))
+        by (spent S) q = with-none (spent S) q refl (still-going S (matched (spent S) q))
         by (deep S) q = with-one S q
         by (broken S) q = absurd (sound n (subst (λ (y : Stop State). IsBroken y) (sym q) tt))
+
+    stop-exactly : (x : Stop State) → B n .stop ≡ x → told (C (B n .steps + X n) .stop) ≡ spentIfDeep (told x)
+    stop-exactly (ended e) q = match-ended P e (C (B n .steps + X n) .stop) (matched (ended e) q) .alike
+    stop-exactly (spent S) q = still-going S (matched (spent S) q) .alike
+    stop-exactly (deep S) q = still-going S (matched (deep S) q) .alike
+    stop-exactly (broken S) q = absurd (sound n (subst (λ (y : Stop State). IsBroken y) (sym q) tt))
+
+    pub exactly : Exactly B X C n
+    exactly =
+        let b = deep-told (B (B n .steps + 1) .stop) in
+        let c = deep-told (C (B n .steps + X n + 1) .stop) in
+        record {
+          stop = stop-exactly (B n .stop) refl;
+          steps = A .counted n;
+          sameDeep = (λ e. c .0 (A .sameDeep n .0 (b .1 e)), λ e. b .0 (A .sameDeep n .1 (c .1 e)));
+          deepSteps = λ e. let q = deep-steps n (b .1 e) in (q .0, same-extras n (b .1 e), q .2);
+        }

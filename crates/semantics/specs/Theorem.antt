@@ -8,14 +8,14 @@ use mathlib.Core.List.{List, []}
 use lib.IntN.{ℤ, pos}
 use lib.ListN.{length, replicate, length-append, length-replicate}
 use Rattle.semantics.specs.Program.{FunctionNumber, Program, variables, functionOf}
-use Rattle.semantics.specs.Run.{End, Outcome, next, end, tooDeep, stuck, Stop, ended, spent, deep, Result, after, added, run, total}
-use Rattle.semantics.specs.Bench.{State, begun, step, bench}
+use Rattle.semantics.specs.Run.{End, Outcome, next, end, tooDeep, stuck, Stop, ended, spent, deep, IsSpent, IsDeep, Result, after, added, run, total, EndsWith, Forever}
+use Rattle.semantics.specs.Bench.{State, waiting, begun, step, bench}
 use Rattle.semantics.specs.WellFormed.{WellFormed, WellFormedState}
 use Rattle.semantics.specs.Controller.{Control, started, noTarget, controlStep, controller}
 use Rattle.semantics.specs.Translation.{entryTarget, number, translate}
 use Rattle.semantics.specs.Extras.{extra, extras}
 use Rattle.semantics.specs.Matching.{holding, HoldingsMatch}
-use Rattle.semantics.specs.Statement.{SameCall, EndsWith, IsDeep, IsSpent, Forever, Agree, Demand3, waiting, Sound, BenchSound}
+use Rattle.semantics.specs.Statement.{SameCall, Agree, Demand3, Sound, BenchSound}
 use Rattle.semantics.specs.ListLaws.{getD-at}
 use Rattle.semantics.specs.RunLaws.{IsLast, last, Goes, goes-goes, goes-unique, goes-last, Ran, ran-spent, ran-last, ran, run-spent, run-last, total-last, run-ended, run-deep}
 use Rattle.semantics.specs.SoundLaws.{Keeps, sound}
@@ -371,7 +371,7 @@ module _ (P : Program) (W : WellFormed P) (f : FunctionNumber) (lf : f < length 
       }
 
   -- Theorem 1 for whole runs.
-  pub bench-sound : Sound waiting d (bench P f args d)
+  pub bench-sound : Sound (WellFormedState P) waiting d (bench P f args d)
   unfolding bench first
   bench-sound = sound (step P d) waiting d (WellFormedState P) (λ S w. keeps S (step P d S) (follow P W d S w)) first first-wellFormed (omega arith)
     where

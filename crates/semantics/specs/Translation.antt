@@ -20,6 +20,11 @@ slotsFrom s (suc n) = s ∷ slotsFrom (suc s) n
 abbrev pub toLabel : ℕ → ℕ → Label → Expr
 toLabel base v l = jump (base + l) 0 1 (slotsFrom (slotOf 0) v)
 
+-- A raise under handler h: without one, tag 6 with slot 1; else the jump to that label.
+abbrev pub raiseCode : ℕ → ℕ → Handler → Expr
+raiseCode base v zero = handle 1
+raiseCode base v (suc l) = toLabel base v (suc l)
+
 -- T(f, k, h, V, H, B): the block b under handler h, in a function of v variables whose entry has number base; `numbers` gives the
 -- number of each source function's entry. The new continuation uses slot v + 2, the new handler v + 3.
 unfoldable pub code : (FunctionNumber → ℕ) → ℕ → ℕ → Handler → Block → Expr
@@ -36,8 +41,7 @@ code numbers base v (suc l) (call x g ys b) =
 code numbers base v h (goto l) = toLabel base v l
 code numbers base v h (return x) = resume 0 (slotOf x)
 code numbers base v h (branch y z l m) = ifAtMost (slotOf y) (slotOf z) (toLabel base v l) (toLabel base v m)
-code numbers base v zero raise = handle 1
-code numbers base v (suc l) raise = toLabel base v (suc l)
+code numbers base v h raise = raiseCode base v h
 
 -- let y1 = 0 in .. let yn = 0 in e, in order, the first in slot s.
 abbrev pub bindZeros : Slot → ℕ → Expr → Expr
