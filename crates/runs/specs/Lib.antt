@@ -5,3 +5,4 @@ pub mod Tells
 pub mod Words
 -- Laws.
 pub mod TellsLaws
+pub mod WordsLaws
