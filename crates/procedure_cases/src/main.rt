@@ -11,8 +11,8 @@ fn print_case(file: &[u8], kind: u8, f: u8, label: u8) {
     if kind == 0 {
         verdict(procedure_file::check::check(file));
     } else {
-        verdict(procedure_file::lookup::block_refusal(file, f, label));
-        bytes(procedure_file::lookup::block(file, f, label), false);
+        verdict(procedure_lookup::block_refusal(file, f, label));
+        bytes(procedure_lookup::block(file, f, label), false);
     }
     say(b"\n");
 }

@@ -9,6 +9,7 @@ use Rattle.parsing.specs.Parser.{accepted}
 use Rattle.parsing.specs.Bytes.{Bytes}
 use Rattle.semantics.specs.Program.{Program}
 use Rattle.semantics.specs.WellFormed.{WellFormed}
+use Rattle.procedure_layout.specs.Layout.{fileLimit}
 use Rattle.procedure_names.specs.Writing.{writing, InRange}
 use Rattle.procedure_file.specs.Check.{checkOf, programOf}
 
@@ -16,7 +17,7 @@ use Rattle.procedure_file.specs.Check.{checkOf, programOf}
 pub record HasFile (P : Program) : Type 0 where
   pub inRange : InRange P
   pub wellFormed : WellFormed P
-  pub fits : length (writing P) ≤ 32768
+  pub fits : length (writing P) ≤ fileLimit
 
 -- The statement, which AcceptedLaws proves.
 pub record Acceptance : Type 0 where

@@ -1,15 +1,13 @@
 -- The proof of demand 1 for procedure files.
-use Prim.Native.Nat.{ℕ, _≤_, _<_}
+use Prim.Native.Nat.{ℕ, _≤_}
 use mathlib.Core.Path.{_≡_, refl, sym, ap, _∙_}
-use mathlib.Core.Bool.{Bool, true, false, cond}
 use mathlib.Core.List.{List}
-use borrow.Author.Tests.{leb-true, le-leb, lt-leb}
-use lib.Dec.{leb}
 use lib.ListN.{length}
 use Rattle.parsing.specs.ParserLaws.{impossible}
-use Rattle.parsing.specs.Parser.{Parsed, read, refuse, accepted, refused}
+use Rattle.parsing.specs.Parser.{Parsed, read, refuse, accepted}
 use Rattle.semantics.specs.Program.{Program}
 use Rattle.procedure_layout.specs.Layout.{program}
+use Rattle.procedure_layout.specs.LayoutLaws.{program-fits}
 use Rattle.procedure_names.specs.Writing.{writing}
 use Rattle.procedure_names.specs.Names.{namesOf, firstWrong}
 use Rattle.procedure_file.specs.Check.{named, checkOf, programRead, programOf}
@@ -19,7 +17,7 @@ use Rattle.procedure_file.specs.WrittenLaws.{ReadProgram, read-program, 
 use Rattle.procedure_file.specs.ReadsBackLaws.{reads-program}
 use Rattle.procedure_file.specs.BytesLaws.{writing-bytes}
 use Rattle.procedure_names.specs.NamesLaws.{names-right, names-formed}
-use Rattle.procedure_file.specs.Asked.{Laid}
+use Rattle.procedure_file.specs.Loaded.{Laid}
 
 -- What is read of it.
 pub laid-reads : {s : List ℕ} → Laid s → ReadProgram s (programOf s)
@@ -34,13 +32,9 @@ module _ (s : List ℕ) (bytes : Bytes s) where
 
 -- What the checker answers, by its parts.
 module _ (s : List ℕ) where
-  pub check-long : 32768 < length s → checkOf s ≡ refused 15 32768
+  pub check-layout : checkOf s ≡ named (program s 0)
   unfolding checkOf
-  check-long h = rw (lt-leb (length s) 32768 h)
-
-  pub check-layout : length s ≤ 32768 → checkOf s ≡ named (program s 0)
-  unfolding checkOf
-  check-layout h = rw (le-leb (length s) 32768 h)
+  check-layout = refl
 
   pub record Passed : Type 0 where
     pub fileBound : length s ≤ 32768
@@ -51,12 +45,11 @@ module _ (s : List ℕ) where
 
   pub passed : checkOf s ≡ accepted → Passed
   unfolding checkOf
-  passed e = go (leb (length s) 32768) (program s 0) refl refl e
+  passed e = go (program s 0) refl e
     where
-      go : (t : Bool) (x : Parsed Program) → leb (length s) 32768 ≡ t → program s 0 ≡ x → cond t (named x) (refused 15 32768) ≡ accepted → Passed
-      go true (read P next) l r w = record { fileBound = leb-true (length s) 32768 l; what = P; next = next; reads = r; right = w }
-      go true (refuse q) l r w = impossible (cc)
-      go false x l r w = impossible (cc)
+      go : (x : Parsed Program) → program s 0 ≡ x → named x ≡ accepted → Passed
+      go (read P next) r w = record { fileBound = program-fits s r; what = P; next = next; reads = r; right = w }
+      go (refuse q) r w = impossible (cc)
 
 pub is-writing : (s : List ℕ) → Bytes s → checkOf s ≡ accepted → HasFile (programOf s) × (s ≡ writing (programOf s))
 is-writing s bytes e =
@@ -75,8 +68,8 @@ is-writing s bytes e =
 pub is-accepted : (P : Program) → HasFile P → (checkOf (writing P) ≡ accepted) × (programOf (writing P) ≡ P)
 unfolding programOf
 is-accepted P h =
-    let r = reads-program P (h .inRange) in
-    (check-layout (writing P) (h .fits) ∙ ap named r ∙ names-right P (h .wellFormed), ap programRead r)
+    let r = reads-program P (h .inRange) (h .fits) in
+    (check-layout (writing P) ∙ ap named r ∙ names-right P (h .wellFormed), ap programRead r)
 
 pub acceptance : Acceptance
 acceptance =

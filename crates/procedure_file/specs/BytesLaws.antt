@@ -1,52 +1,14 @@
 -- The writing of a well-formed program within the ranges is a list of bytes.
-use Prim.Native.Nat.{ℕ, zero, suc, _+_, _/_, _%_, _^_, _≤_, _<_}
-use mathlib.Core.Path.{_≡_}
-use mathlib.Core.List.{List, [], _∷_, _++_}
+use Prim.Native.Nat.{ℕ, _≤_, _<_}
 use native.Mathlib.Omega.{arith}
-use lib.IntN.{ℤ}
-use lib.ListN.{length, getD}
-use mir.Syntax.{w32}
-use mir.Val.{ofZ, SFits}
-use mir.ValLaws.{ofZ-fits}
-use Rattle.parsing.specs.Parser.{joined}
+use lib.ListN.{length}
 use Rattle.semantics.specs.Program.{Block, constant, copy, difference, call, goto, return, branch, raise, Labelled, Function, Program, variables, functionOf, noFunction}
-use Rattle.semantics.specs.WellFormed.{All, WellFormedBlock, WellFormedLabelled, WellFormedFunction, WellFormed}
-use Rattle.parsing.specs.Bytes.{Bytes, valueBytes}
+use Rattle.semantics.specs.WellFormed.{All, WellFormedBlock, WellFormedLabelled, WellFormedFunction}
+use Rattle.parsing.specs.Bytes.{Bytes}
+use Rattle.parsing.specs.RowLaws.{Row, none, more, row-bytes, append, row-list, row-joined, value-row}
 use Rattle.procedure_names.specs.Writing.{blockBytes, labelledBytes, functionBytes, writing, ValuesFit, FunctionInRange, InRange}
 use Rattle.procedure_file.specs.Accepted.{HasFile}
 use Rattle.procedure_file.specs.ReadsBackLaws.{all-at}
-
--- Bytes, one by one.
-data Row : List ℕ → Type 0 where
-  none : Row []
-  more : (b : ℕ) {s : List ℕ} → b < 256 → Row s → Row (b ∷ s)
-
-row-bytes : {s : List ℕ} → Row s → Bytes s
-row-bytes none i = omega arith
-row-bytes (more b h r) zero = h
-row-bytes (more b h r) (suc i) = row-bytes r i
-
-append : {s t : List ℕ} → Row s → Row t → Row (s ++ t)
-append none b = b
-append (more x h a) b = more x h (append a b)
-
-row-joined : {A : Type 0} (w : A → List ℕ) (as′ : List A) → All (λ a. Row (w a)) as′ → Row (joined w as′)
-row-joined w [] h = none
-row-joined w (a ∷ rest) h = append (h .0) (row-joined w rest (h .1))
-
-all-map : {A : Type 0} (Q R S : A → Type 0) (as′ : List A) → ((a : A) → Q a → R a → S a) → All Q as′ → All R as′ → All S as′
-all-map Q R S [] f q r = tt
-all-map Q R S (a ∷ rest) f q r = (f a (q .0) (r .0), all-map Q R S rest f (q .1) (r .1))
-
-row-below : (v : ℕ) (ys : List ℕ) → v ≤ 256 → All (λ y. y < v) ys → Row ys
-row-below v [] h w = none
-row-below v (y ∷ ys) h w = more y (omega (arith, w .0)) (row-below v ys h (w .1))
-
-value-row : (i : ℤ) → SFits w32 i → Row (valueBytes i)
-value-row i f =
-    let n = ofZ w32 i in
-    let h : n < 4294967296 = ofZ-fits w32 i f .fits in
-    more (n % 256) (omega arith) (more (n / 256 % 256) (omega arith) (more (n / 256 / 256 % 256) (omega arith) (more (n / 256 / 256 / 256) (omega arith) none)))
 
 module _ (P : Program) (r : InRange P) where
   params-bound : (g : ℕ) → g < length P → functionOf P g .params ≤ 8
@@ -66,7 +28,7 @@ module _ (P : Program) (r : InRange P) where
         (more x (omega (arith, w .0))
         (more g (omega (arith, w .1, r .most))
         (more (length ys) (omega (arith, w .2, params-bound g (w .1)))
-        (append (row-below v ys (omega arith) (w .3)) (block-row b (w .4) f)))))
+        (append (row-list (All (λ z. z < v)) (λ z zs h. (omega (arith, h .0), h .1)) ys (w .3)) (block-row b (w .4) f)))))
     block-row (goto l) w f = more 5 (omega arith) (more l (omega (arith, w .1)) none)
     block-row (return x) w f = more 6 (omega arith) (more x (omega (arith, w)) none)
     block-row (branch y z l m) w f =
@@ -86,8 +48,8 @@ module _ (P : Program) (r : InRange P) where
       (more (F .locals) (omega (arith, f .locals))
       (more n (omega (arith, f .blocks))
       (append (block-row v n counterBound (f .blocks) (F .entry) (w .entry) (f .entryValues))
-      (row-joined labelledBytes (F .blocks)
-      (all-map (WellFormedLabelled P v n) (λ B. ValuesFit (B .block)) (λ B. Row (labelledBytes B)) (F .blocks) (labelled-row v n counterBound (f .blocks)) (w .blocks) (f .blockValues))))))
+      (row-joined labelledBytes (λ Bs. All (WellFormedLabelled P v n) Bs × All (λ B. ValuesFit (B .block)) Bs)
+      (λ B Bs h. (labelled-row v n counterBound (f .blocks) B (h .0 .0) (h .1 .0), (h .0 .1, h .1 .1))) (F .blocks) (w .blocks, f .blockValues)))))
 
 written-row : (P : Program) → HasFile P → Row (writing P)
 unfolding writing
@@ -95,8 +57,8 @@ written-row P h =
     let r = h .inRange in
     more 83 (omega arith) (more 80 (omega arith) (more 70 (omega arith) (more 1 (omega arith) (more 0 (omega arith)
     (more (length P) (omega (arith, r .most))
-    (row-joined functionBytes P
-    (all-map (WellFormedFunction P) FunctionInRange (λ F. Row (functionBytes F)) P (function-row P r) (h .wellFormed) (r .functions))))))))
+    (row-joined functionBytes (λ Fs. All (WellFormedFunction P) Fs × All FunctionInRange Fs)
+    (λ F Fs g. (function-row P r F (g .0 .0) (g .1 .0), (g .0 .1, g .1 .1))) P (h .wellFormed, r .functions)))))))
 
 pub writing-bytes : (P : Program) → HasFile P → Bytes (writing P)
 writing-bytes P h = row-bytes (written-row P h)

@@ -1,4 +1,4 @@
--- What upper crates may rest on: the facts of an accepted file. Their proof is in FactsLaws.
+-- What upper crates may rest on: the facts of an accepted file. Their proof is in FileInvariantLaws.
 use Prim.Native.Nat.{ℕ, _+_, _≤_, _<_}
 use mathlib.Core.Path.{_≡_}
 use mathlib.Core.List.{List, _++_}
@@ -11,7 +11,7 @@ use Rattle.semantics.specs.WellFormed.{IsLabel, WellFormed, WellFormedBlock}
 use Rattle.procedure_operations.specs.declared.operation.Operation.the-variants.{Call, Refused}
 use Rattle.procedure_layout.specs.declared.layout.After.the-variants.{Onward}
 use Rattle.procedure_operations.specs.Operation.{operationAt}
-use Rattle.procedure_layout.specs.Layout.{argumentsAt}
+use Rattle.procedure_layout.specs.Layout.{fileLimit, maxFunctions, argumentsAt}
 use Rattle.procedure_names.specs.Writing.{blockBytes, writing, ValuesFit}
 use Rattle.procedure_file.specs.Check.{programOf}
 use Rattle.procedure_layout.specs.Rest.{restFrom, restAt}
@@ -37,9 +37,9 @@ pub record FileInvariant (s : List ℕ) : Type 0 where
   pub written : s ≡ writing (programOf s)
   pub wellFormed : WellFormed (programOf s)
   pub least : 1 ≤ length (programOf s)
-  pub most : length (programOf s) ≤ 32
+  pub most : length (programOf s) ≤ maxFunctions
   pub counts : (f : ℕ) → f < length (programOf s) → Counts (functionOf (programOf s) f)
-  pub fileBound : length s ≤ 32768
+  pub fileBound : length s ≤ fileLimit
   pub function : (f : ℕ) → f < length (programOf s) → getElem? (programOf s) f ≡ some (functionOf (programOf s) f)
   -- Where its blocks stand: label 0 is the entry block.
   pub start : (f l : ℕ) → f < length (programOf s) → l ≤ length (functionOf (programOf s) f .blocks) → Stands s f (startOf (programOf s) f l)

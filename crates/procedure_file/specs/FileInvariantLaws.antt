@@ -32,7 +32,7 @@ use Rattle.procedure_file.specs.AcceptedLaws.{laid-reads, passed, laid-b
 use Rattle.procedure_names.specs.NamedLaws.{call-room}
 use Rattle.procedure_file.specs.PlacesLaws.{rest-is, block-inside, start-at}
 use Rattle.procedure_operations.specs.OperationLaws.{op-constant, op-copy, op-difference, op-call, op-goto, op-return, op-branch, op-raise}
-use Rattle.procedure_file.specs.FillLaws.{params-bound, locals-bound, blocks-bound}
+use Rattle.procedure_file.specs.TableLaws.{params-bound, locals-bound, blocks-bound}
 
 -- Where an operation stands, its block was read.
 stands-read : (s : List ℕ) (f at : ℕ) (w : Stands s f at) → ReadBlock s at (restAt s at) (at + length (blockBytes (restAt s at)))

@@ -2,9 +2,8 @@
 pub mod Check
 pub mod Accepted
 pub mod Places
-pub mod Tables
+pub mod Table
 pub mod Loaded
-pub mod Lookup
 pub mod FileInvariant
 pub mod Asked
 -- Laws: AcceptedLaws proves Accepted, FileInvariantLaws proves FileInvariant of every accepted file.
@@ -13,9 +12,9 @@ pub mod ReadsBackLaws
 pub mod BytesLaws
 pub mod AcceptedLaws
 pub mod PlacesLaws
+pub mod TableLaws
 pub mod FillLaws
 pub mod FileNamesLaws
 pub mod CheckLaws
 pub mod FileInvariantLaws
-pub mod LookupLaws
 pub mod LoadedLaws

@@ -7,23 +7,19 @@ use Rattle.parsing.specs.declared.Checked.{Checked}
 use Rattle.parsing.specs.declared.Checked.the-variants.{Accepted, Refused}
 use Rattle.parsing.specs.Parser.{Verdict, verdictOf}
 use Rattle.procedure_file.specs.Check.{checkOf}
-use Rattle.procedure_file.specs.Loaded.{Loaded, Unchanged, LoadedOr}
+use Rattle.procedure_file.specs.Loaded.{Loaded, LoadedOr}
 use Rattle.procedure_file.specs.FileInvariant.{FileInvariant}
 use Rattle.procedure_file.specs.FileInvariantLaws.{invariant}
 
-module _ (s starts handlers params locals blocks starts′ handlers′ params′ locals′ blocks′ : List ℕ) (r : Checked)
-    (told : verdictOf r ≡ checkOf s)
-    (lent : LoadedOr (checkOf s) s starts handlers params locals blocks starts′ handlers′ params′ locals′ blocks′) where
-  answer : (c : Checked) → r ≡ c → LoadedOr (verdictOf c) s starts handlers params locals blocks starts′ handlers′ params′ locals′ blocks′
-  answer c e =
-      subst (λ (v : Verdict). LoadedOr v s starts handlers params locals blocks starts′ handlers′ params′ locals′ blocks′)
-      (sym told ∙ ap verdictOf e) lent
+module _ (s starts starts′ : List ℕ) (r : Checked) (told : verdictOf r ≡ checkOf s) (lent : LoadedOr (checkOf s) s starts starts′) where
+  answer : (c : Checked) → r ≡ c → LoadedOr (verdictOf c) s starts starts′
+  answer c e = subst (λ (v : Verdict). LoadedOr v s starts starts′) (sym told ∙ ap verdictOf e) lent
 
-  pub loaded : r ≡ Accepted → Loaded s starts′ handlers′ params′ locals′ blocks′
+  pub loaded : r ≡ Accepted → Loaded s starts′
   loaded e = answer Accepted e
 
-  pub unchanged : (q : Refusal) → r ≡ Refused q → Unchanged starts handlers params locals blocks starts′ handlers′ params′ locals′ blocks′
+  pub unchanged : (q : Refusal) → r ≡ Refused q → starts′ ≡ starts
   unchanged q e = answer (Refused q) e
 
-pub loaded-invariant : {s starts handlers params locals blocks : List ℕ} → Loaded s starts handlers params locals blocks → FileInvariant s
-loaded-invariant {s} L = invariant s (L .bytes) (L .isAccepted)
+pub loaded-invariant : {s starts : List ℕ} → Loaded s starts → FileInvariant s
+loaded-invariant {s} L = invariant s (L .tabled .laid .bytes) (L .isAccepted)

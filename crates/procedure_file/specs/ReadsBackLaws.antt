@@ -11,13 +11,13 @@ use mir.Val.{ofZ, SFits}
 use mir.Facts.{toZ-ofZ}
 use Rattle.parsing.specs.Parser.{read, andThen, many, joined}
 use Rattle.parsing.specs.Fields.{byte, count, valueOf, valueAt}
-use Rattle.parsing.specs.ReadsLaws.{Reads, behind, byte-here, first-here, length-here, next-here, reads-bind, reads-map, reads-many, reads-byte, reads-count, reads-marked, reads-version, reads-ended}
+use Rattle.parsing.specs.ReadsLaws.{Reads, behind, byte-here, first-here, length-here, next-here, reads-bind, reads-map, reads-many, reads-byte, reads-count, reads-head, reads-ended}
 use Rattle.semantics.specs.Program.{Block, constant, copy, difference, call, goto, return, branch, raise, Labelled, Function, Program}
 use Rattle.semantics.specs.WellFormed.{All}
 use Rattle.procedure_operations.specs.declared.operation.Operation.{Operation}
 use Rattle.procedure_operations.specs.declared.operation.Operation.the-variants.{Constant, Copy, Difference, Call, Goto, Return, Branch, Raise}
 use Rattle.procedure_operations.specs.Operation.{operationAt}
-use Rattle.procedure_layout.specs.Layout.{spf, argumentsAt, blockFrom, before, block, labelled, heading, function, program}
+use Rattle.procedure_layout.specs.Layout.{spf, fileLimit, argumentsAt, blockFrom, before, block, labelled, heading, function, program}
 use Rattle.parsing.specs.Bytes.{valueBytes}
 use Rattle.procedure_names.specs.Writing.{blockBytes, labelledBytes, functionBytes, writing, ValuesFit, FunctionInRange, InRange}
 use Rattle.procedure_operations.specs.OperationLaws.{op-constant, op-copy, op-difference, op-call, op-goto, op-return, op-branch, op-raise}
@@ -149,13 +149,12 @@ function-reads F r =
     (reads-many labelled labelledBytes (F .blocks) (λ i d h. labelled-reads (getD (F .blocks) i d) (all-at (λ B. ValuesFit (B .block)) (F .blocks) (r .blockValues) i d h)))
     (λ s m. refl)))
 
-pub reads-program : (P : Program) → InRange P → program (writing P) 0 ≡ read P (length (writing P))
+pub reads-program : (P : Program) → InRange P → length (writing P) ≤ fileLimit → program (writing P) 0 ≡ read P (length (writing P))
 unfolding program writing
-reads-program P r =
+reads-program P r fits =
     let s : List ℕ = 83 ∷ 80 ∷ 70 ∷ 1 ∷ 0 ∷ length P ∷ joined functionBytes P in
-    let a = reads-marked spf .reads s 0 (1 ∷ 0 ∷ length P ∷ joined functionBytes P) refl in
-    let b = reads-version .reads s 3 (length P ∷ joined functionBytes P) refl in
+    let a = reads-head spf fileLimit s (length P ∷ joined functionBytes P) refl fits in
     let c = reads-count 1 32 (length P) (r .some) (r .most) .reads s 5 (joined functionBytes P) refl in
     let d = reads-many function functionBytes P (λ i e h. function-reads (getD P i e) (all-at FunctionInRange P (r .functions) i e h)) .reads s 6 [] (sym (append-nil (joined functionBytes P))) in
     let n : 6 + length (joined functionBytes P) ≡ length s = omega arith in
-    rw (a, b, c, d, n, reads-ended s (length s) (omega arith))
+    rw (a, c, d, n, reads-ended s (length s) (omega arith))

@@ -9,12 +9,12 @@ use mir.Syntax.{w32}
 use mir.Val.{Fits, SFits}
 use mir.Facts.{ofZ-toZ, sfits-toZ}
 use Rattle.parsing.specs.Parser.{read, andThen, many, joined}
-use Rattle.parsing.specs.Fields.{byte, marked, version, count, ended, valueOf, valueAt}
+use Rattle.parsing.specs.Fields.{byte, head, count, ended, valueOf, valueAt}
 use Rattle.parsing.specs.ParserLaws.{sequence, ReadMany, none, one, read-many, read-byte, read-count}
-use Rattle.parsing.specs.BytesAtLaws.{BytesAt, bytes-at-join, bytes-at-cons, bytes-at-byte, span, bytes-at-span, bytes-at-many, bytes-at-marked, bytes-at-version, read-ended}
+use Rattle.parsing.specs.BytesAtLaws.{BytesAt, bytes-at-join, bytes-at-cons, bytes-at-byte, span, bytes-at-span, bytes-at-many, read-head, read-ended}
 use Rattle.semantics.specs.Program.{Block, Labelled, Function, Program}
 use Rattle.semantics.specs.WellFormed.{All}
-use Rattle.procedure_layout.specs.Layout.{spf, argumentsAt, block, labelled, Heading, heading, function, program}
+use Rattle.procedure_layout.specs.Layout.{spf, fileLimit, argumentsAt, block, labelled, Heading, heading, function, program}
 use Rattle.parsing.specs.Bytes.{Bytes, valueBytes}
 use Rattle.procedure_names.specs.Writing.{blockBytes, labelledBytes, functionBytes, writing, ValuesFit, FunctionInRange, InRange}
 use Rattle.procedure_layout.specs.LayoutLaws.{HeadingAt, read-heading}
@@ -175,21 +175,20 @@ module _ (s : List ℕ) (bytes : Bytes s) where
   pub read-program : (P : Program) (next : ℕ) → program s 0 ≡ read P next → ReadProgram s P
   unfolding program
   read-program P next e =
-      let a = sequence (marked spf s 0) (λ u m₁. andThen (version s m₁) (λ v m₂. andThen (count 1 32 s m₂) (λ n m₃. andThen (many n function s m₃) (λ fs m₄. andThen (ended s m₄) (λ w m₅. read fs m₅))))) e in
-      let b = sequence (version s (a .middle)) (λ v m₂. andThen (count 1 32 s m₂) (λ n m₃. andThen (many n function s m₃) (λ fs m₄. andThen (ended s m₄) (λ w m₅. read fs m₅)))) (a .follows) in
-      let c = sequence (count 1 32 s (b .middle)) (λ n m₃. andThen (many n function s m₃) (λ fs m₄. andThen (ended s m₄) (λ w m₅. read fs m₅))) (b .follows) in
+      let a = sequence (head spf fileLimit s 0) (λ u m₂. andThen (count 1 32 s m₂) (λ n m₃. andThen (many n function s m₃) (λ fs m₄. andThen (ended s m₄) (λ w m₅. read fs m₅)))) e in
+      let c = sequence (count 1 32 s (a .middle)) (λ n m₃. andThen (many n function s m₃) (λ fs m₄. andThen (ended s m₄) (λ w m₅. read fs m₅))) (a .follows) in
       let d = sequence (many (c .first) function s (c .middle)) (λ fs m₄. andThen (ended s m₄) (λ w m₅. read fs m₅)) (c .follows) in
       let f = sequence (ended s (d .middle)) (λ w m₅. read (d .first) m₅) (d .follows) in
-      go (a .middle) (b .middle) (c .first) (c .middle) (d .first) (d .middle) (f .middle) (bytes-at-marked s spf 0 (a .reads)) (bytes-at-version s (a .middle) (b .reads)) (c .reads) (d .reads)
+      go (a .middle) (c .first) (c .middle) (d .first) (d .middle) (f .middle) (read-head s spf fileLimit (a .reads) .1) (c .reads) (d .reads)
       (read-ended s (d .middle) (f .reads) .0) (f .follows)
     where
-      go : (m₁ m₂ n m₃ : ℕ) (fs : List Function) (m₄ m₅ : ℕ) → BytesAt s 0 m₁ spf → BytesAt s m₁ m₂ (1 ∷ 0 ∷ []) → count 1 32 s m₂ ≡ read n m₃
+      go : (m₂ n m₃ : ℕ) (fs : List Function) (m₄ m₅ : ℕ) → BytesAt s 0 m₂ (spf ++ 1 ∷ 0 ∷ []) → count 1 32 s m₂ ≡ read n m₃
           → many n function s m₃ ≡ read fs m₄ → length s ≤ m₄ → read fs m₅ ≡ read P next → ReadProgram s P
-      go m₁ m₂ n m₃ fs m₄ m₅ x y z w l v =
+      go m₂ n m₃ fs m₄ m₅ x z w l v =
           let p : fs ≡ P = cc in
           let k = read-count 1 32 s m₂ z in
           let q = read-many function s n m₃ w in
-          let e₂ : m₂ ≡ 5 = omega (arith, x .past, y .past) in
+          let e₂ : m₂ ≡ 5 = x .past in
           let e₃ : m₃ ≡ 6 = omega (arith, k .byte .past) in
           let r : ReadMany function s 6 P m₄ = rw (← e₃, ← p) (q .0) in
           let j : length P ≡ n = rw (← p) (q .1) in
@@ -199,7 +198,7 @@ module _ (s : List ℕ) (bytes : Bytes s) where
           let g : BytesAt s 5 6 (getD s 5 0 ∷ []) = bytes-at-byte s 5 (omega arith) in
           let nb : getD s 5 0 ≡ length P = ap (λ (t : ℕ). getD s t 0) (sym e₂) ∙ sym (k .byte .is) ∙ sym j in
           record {
-            head = bytes-at-join s (bytes-at-join s x (rw e₂ at y)) (rw nb at g);
+            head = bytes-at-join s (rw e₂ at x) (rw nb at g);
             least = omega (arith, k .least);
             most = omega (arith, k .most);
             functions = rw o at r;

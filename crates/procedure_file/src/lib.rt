@@ -1,4 +1,4 @@
-// Procedure files (`SPF`): the checker, the lookup of blocks, the tables for machines.
+// Procedure files (`SPF`): the checker, and the table by which machines and translator read an accepted file.
 pub mod check;
-pub mod lookup;
-mod tables;
+mod fill;
+pub mod table;

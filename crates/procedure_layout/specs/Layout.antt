@@ -1,10 +1,10 @@
--- The layout of a procedure file (document 01, 'The procedure file'): which program its bytes are, or the first refusal of 1 to 6.
+-- The layout of a procedure file (document 01, 'The procedure file'): which program its bytes are, or the first refusal of 15 and 1 to 6.
 use Prim.Native.Nat.{ℕ, zero, suc, _+_}
 use mathlib.Core.List.{List, [], _∷_}
 use lib.ListN.{length, take, drop}
 use Rattle.semantics.specs.Program.{Block, constant, copy, difference, call, goto, return, branch, raise, Labelled, Function, Program}
 use Rattle.parsing.specs.Parser.{Parsed, read, refuse, Parser, give, _>>=_, many}
-use Rattle.parsing.specs.Fields.{cut, byte, marked, version, count, ended}
+use Rattle.parsing.specs.Fields.{cut, byte, head, count, ended}
 use Rattle.procedure_operations.specs.declared.operation.Operation.{Operation}
 use Rattle.procedure_operations.specs.declared.operation.Operation.the-variants.{Constant, Copy, Difference, Call, Goto, Return, Branch, Raise, Refused}
 use Rattle.procedure_operations.specs.Operation.{operationAt}
@@ -12,6 +12,18 @@ use Rattle.procedure_operations.specs.Operation.{operationAt}
 -- The bytes `SPF`.
 abbrev pub spf : List ℕ
 spf = 83 ∷ 80 ∷ 70 ∷ []
+
+-- "15 file above its limit (32,768 ..)."
+abbrev pub fileLimit : ℕ
+fileLimit = 32768
+
+-- "Function count (1 to 32)."
+abbrev pub maxFunctions : ℕ
+maxFunctions = 32
+
+-- "Parameter count (0 to 8), local count (0 to 24)": variables of a function at most.
+abbrev pub maxVariables : ℕ
+maxVariables = 32
 
 -- What is made of the operations from an offset on: `step` says what an operation makes of what follows it. The fuel `n` never runs
 -- out where it is the file's length; `stop` is what the end of the file makes (`walk-law` in WalkLaws).
@@ -77,9 +89,8 @@ function = do
 -- "Mark `SPF`, version (16 bits, 1), function count (1 to 32)", the functions, and no bytes left over.
 unfoldable pub program : Parser Program
 program = do
-  _ ← marked spf
-  _ ← version
-  n ← count 1 32
+  _ ← head spf fileLimit
+  n ← count 1 maxFunctions
   fs ← many n function
   _ ← ended
   give fs

@@ -8,14 +8,14 @@ use Rattle.parsing.specs.declared.Refusal.{Refusal}
 use Rattle.parsing.specs.declared.Scan.the-variants.{Past, Stopped}
 use Rattle.parsing.specs.declared.Count.the-variants.{Is, Outside}
 use Rattle.parsing.specs.Parser.{Parsed, read, refuse, andThen, many, pastOf}
-use Rattle.parsing.specs.Fields.{cut, byte, marked, version, count, counted, ended}
+use Rattle.parsing.specs.Fields.{cut, byte, head, count, counted, ended}
 use Rattle.parsing.specs.ParserLaws.{impossible, past-read, past-refuse, byte-in, byte-cut, read-count, count-is, count-outside, sequence}
-use Rattle.parsing.specs.BytesAtLaws.{bytes-at-marked, bytes-at-version}
-use Rattle.semantics.specs.Program.{Block, Labelled, Function}
+use Rattle.parsing.specs.BytesAtLaws.{read-head, past-head}
+use Rattle.semantics.specs.Program.{Block, Labelled, Function, Program}
 use Rattle.procedure_operations.specs.declared.operation.Operation.{Operation}
 use Rattle.procedure_layout.specs.declared.layout.After.the-variants.{Onward, Ended, Halted}
 use Rattle.procedure_operations.specs.Operation.{operationAt}
-use Rattle.procedure_layout.specs.Layout.{spf, blockFrom, before, block, labelled, Heading, heading, function, program}
+use Rattle.procedure_layout.specs.Layout.{spf, fileLimit, blockFrom, before, block, labelled, Heading, heading, function, program}
 use Rattle.procedure_layout.specs.After.{afterOf, blocksOf, endOf}
 use Rattle.procedure_operations.specs.ViewLaws.{View, isConstant, isCopy, isDifference, isCall, isGoto, isReturn, isBranch, isRaise, isRefused, view}
 use Rattle.procedure_layout.specs.WalkLaws.{block-law}
@@ -209,48 +209,39 @@ module _ (s : List ℕ) (at : ℕ) where
 
 -- The whole file.
 module _ (s : List ℕ) where
-  pub program-1 : (r : Refusal) → pastOf (marked spf s 0) ≡ Stopped r → pastOf (program s 0) ≡ Stopped r
+  pub program-1 : (r : Refusal) → pastOf (head spf fileLimit s 0) ≡ Stopped r → pastOf (program s 0) ≡ Stopped r
   unfolding program
-  program-1 r e = rw (past-refuse (marked spf s 0) e)
+  program-1 r e = rw (past-refuse (head spf fileLimit s 0) e)
 
-  module _ (a : ℕ) (mark : pastOf (marked spf s 0) ≡ Past a) where
-    mark-is : (x : Parsed (Unit {0})) → marked spf s 0 ≡ x → pastOf x ≡ Past a → x ≡ read tt 3
-    mark-is (read tt m) w f = ap (read tt) (bytes-at-marked s spf 0 w .past)
-    mark-is (refuse r) w f = impossible (cc)
+  module _ (a : ℕ) (whole : pastOf (head spf fileLimit s 0) ≡ Past a) where
+    after-head : head spf fileLimit s 0 ≡ read tt 5
+    after-head = past-head s spf fileLimit whole .1
 
-    after-mark : marked spf s 0 ≡ read tt 3
-    after-mark = mark-is (marked spf s 0) refl mark
-
-    pub program-2 : (r : Refusal) → pastOf (version s 3) ≡ Stopped r → pastOf (program s 0) ≡ Stopped r
+    pub program-2 : (r : Refusal) → counted (count 1 32 s 5) ≡ Outside r → pastOf (program s 0) ≡ Stopped r
     unfolding program
-    program-2 r e = rw (after-mark, past-refuse (version s 3) e)
+    program-2 r e = rw (after-head, count-outside 1 32 s 5 e)
 
-    module _ (b : ℕ) (versioned : pastOf (version s 3) ≡ Past b) where
-      version-is : (x : Parsed (Unit {0})) → version s 3 ≡ x → pastOf x ≡ Past b → x ≡ read tt 5
-      version-is (read tt m) w f = ap (read tt) (bytes-at-version s 3 w .past)
-      version-is (refuse r) w f = impossible (cc)
-
-      after-version : version s 3 ≡ read tt 5
-      after-version = version-is (version s 3) refl versioned
-
-      pub program-3 : (r : Refusal) → counted (count 1 32 s 5) ≡ Outside r → pastOf (program s 0) ≡ Stopped r
+    module _ (n : ℕ) (some : counted (count 1 32 s 5) ≡ Is n) where
+      pub program-3 : (r : Refusal) → pastOf (many n function s 6) ≡ Stopped r → pastOf (program s 0) ≡ Stopped r
       unfolding program
-      program-3 r e = rw (after-mark, after-version, count-outside 1 32 s 5 e)
+      program-3 r e = rw (after-head, count-is 1 32 s 5 some, past-refuse (many n function s 6) e)
 
-      module _ (n : ℕ) (some : counted (count 1 32 s 5) ≡ Is n) where
-        pub program-4 : (r : Refusal) → pastOf (many n function s 6) ≡ Stopped r → pastOf (program s 0) ≡ Stopped r
-        unfolding program
-        program-4 r e = rw (after-mark, after-version, count-is 1 32 s 5 some, past-refuse (many n function s 6) e)
+      pub program-4 : (m : ℕ) → pastOf (many n function s 6) ≡ Past m → pastOf (program s 0) ≡ pastOf (ended s m)
+      unfolding program
+      program-4 m e =
+          let f = past-read (many n function s 6) e in
+          rw (after-head, count-is 1 32 s 5 some, f .is) (go (f .what) (ended s m))
+        where
+          go : (fs : List Function) (x : Parsed (Unit {0})) → pastOf (andThen x (λ u k. read fs k)) ≡ pastOf x
+          go fs (read u k) = refl
+          go fs (refuse r) = refl
 
-        pub program-5 : (m : ℕ) → pastOf (many n function s 6) ≡ Past m → pastOf (program s 0) ≡ pastOf (ended s m)
-        unfolding program
-        program-5 m e =
-            let f = past-read (many n function s 6) e in
-            rw (after-mark, after-version, count-is 1 32 s 5 some, f .is) (go (f .what) (ended s m))
-          where
-            go : (fs : List Function) (x : Parsed (Unit {0})) → pastOf (andThen x (λ u k. read fs k)) ≡ pastOf x
-            go fs (read u k) = refl
-            go fs (refuse r) = refl
+  -- A file whose layout was read is within its limit.
+  pub program-fits : {P : Program} {next : ℕ} → program s 0 ≡ read P next → length s ≤ fileLimit
+  unfolding program
+  program-fits e =
+      let h = sequence (head spf fileLimit s 0) (λ u m. andThen (count 1 32 s m) (λ n m₂. andThen (many n function s m₂) (λ fs m₃. andThen (ended s m₃) (λ v m₄. read fs m₄)))) e in
+      read-head s spf fileLimit (h .reads) .0
 
 -- The offset past a block, from its end.
 pub end-past : (x : Parsed Block) (next : ℕ) → pastOf x ≡ Past next → next ≡ endOf x

@@ -1,13 +1,23 @@
-// The layout of a file: the refusals 1 to 6.
+// The layout of a file: the refusals 15 and 1 to 6.
 use parsing::Count;
 use parsing::Refusal;
 use parsing::Scan;
+use parsing::refusals;
 use procedure_operations::operation;
 use procedure_operations::operation::Operation;
 ghost use mathlib.Core.Path.{_≡_};
 ghost use Rattle.parsing.specs.Parser.{pastOf, many};
 ghost use Rattle.procedure_layout.specs.Layout.{block, labelled, heading, function, program};
 ghost use Rattle.procedure_layout.specs.After.{afterOf, blocksOf};
+
+// "15 file above its limit (32,768 ..)."
+pub const FILE_LIMIT: usize = 32768;
+
+// "Function count (1 to 32)."
+pub const MAX_FUNCTIONS: usize = 32;
+
+// "Parameter count (0 to 8), local count (0 to 24)": variables of a function at most.
+pub const MAX_VARIABLES: usize = 32;
 
 // What follows an operation.
 pub enum After {
@@ -20,37 +30,13 @@ pub fn after_of(o: Operation) -> After
     ensures { λ r. ⌜ r ≡ afterOf o ⌝ }
 {
     match o {
-        Operation::Constant {
-            target: _,
-            value: _,
-            next,
-        } => After::Onward(next),
-        Operation::Copy {
-            target: _,
-            from: _,
-            next,
-        } => After::Onward(next),
-        Operation::Difference {
-            target: _,
-            left: _,
-            right: _,
-            next,
-        } => After::Onward(next),
-        Operation::Call {
-            target: _,
-            function: _,
-            count: _,
-            next,
-        } => After::Onward(next),
-        Operation::Goto { label: _, next } => After::Ended(next),
-        Operation::Return { variable: _, next } => After::Ended(next),
-        Operation::Branch {
-            left: _,
-            right: _,
-            least: _,
-            other: _,
-            next,
-        } => After::Ended(next),
+        Operation::Constant { next, .. } => After::Onward(next),
+        Operation::Copy { next, .. } => After::Onward(next),
+        Operation::Difference { next, .. } => After::Onward(next),
+        Operation::Call { next, .. } => After::Onward(next),
+        Operation::Goto { next, .. } => After::Ended(next),
+        Operation::Return { next, .. } => After::Ended(next),
+        Operation::Branch { next, .. } => After::Ended(next),
         Operation::Raise { next } => After::Ended(next),
         Operation::Refused(r) => After::Halted(r),
     }
@@ -82,7 +68,7 @@ fn labelled_end(file: &[u8], at: usize) -> Scan
 {
     if file.len() <= at {
         return Scan::Stopped(Refusal {
-            number: 3,
+            number: refusals::ENDS_EARLY,
             place: file.len(),
         });
     }
@@ -159,16 +145,13 @@ fn functions_end(file: &[u8], start: usize, n: usize) -> Scan
 pub fn layout_end(file: &[u8]) -> Scan
     ensures { λ r. ⌜ r ≡ pastOf (program (now (file .entry)) 0) ⌝ }
 {
-    match parsing::mark_end(file, b"SPF") {
+    match parsing::head_end(file, b"SPF", FILE_LIMIT) {
         Scan::Stopped(r) => Scan::Stopped(r),
-        Scan::Past(_) => match parsing::version_end(file, 3) {
-            Scan::Stopped(r) => Scan::Stopped(r),
-            Scan::Past(_) => match parsing::count_at(file, 5, 1, 32) {
-                Count::Outside(r) => Scan::Stopped(r),
-                Count::Is(n) => match functions_end(file, 6, n) {
-                    Scan::Stopped(r) => Scan::Stopped(r),
-                    Scan::Past(end) => parsing::file_end(file, end),
-                },
+        Scan::Past(_) => match parsing::count_at(file, 5, 1, MAX_FUNCTIONS) {
+            Count::Outside(r) => Scan::Stopped(r),
+            Count::Is(n) => match functions_end(file, 6, n) {
+                Scan::Stopped(r) => Scan::Stopped(r),
+                Scan::Past(end) => parsing::file_end(file, end),
             },
         },
     }

@@ -5,6 +5,7 @@ use mathlib.Core.List.{List, [], _∷_, _++_, map}
 use lib.Dec.{leb, ltb, eqb}
 use lib.ListN.{length, getD}
 use Rattle.semantics.specs.Program.{Variable, Label, Handler, FunctionNumber, Block, constant, copy, difference, call, goto, return, branch, raise, Labelled, Function, Program, variables}
+use Rattle.parsing.specs.Refusals.{missingVariable, missingLabel, missingFunction, calleeArity}
 use Rattle.parsing.specs.Parser.{Verdict, accepted, refused}
 use Rattle.procedure_names.specs.Writing.{blockBytes, labelledBytes, functionBytes}
 
@@ -16,22 +17,22 @@ pub record Name : Type 0 where
 
 -- "7 no such variable", of v variables.
 abbrev pub variable : ℕ → ℕ → Variable → Name
-variable v place x = record { number = 7; place = place; right = ltb x v }
+variable v place x = record { number = missingVariable; place = place; right = ltb x v }
 
 -- "8 no such label or handler label", of the labels 1 to n; no handler is 0.
 abbrev pub label : ℕ → ℕ → Label → Name
-label n place l = record { number = 8; place = place; right = cond (leb 1 l) (leb l n) false }
+label n place l = record { number = missingLabel; place = place; right = cond (leb 1 l) (leb l n) false }
 
 abbrev pub handler : ℕ → ℕ → Handler → Name
-handler n place h = record { number = 8; place = place; right = leb h n }
+handler n place h = record { number = missingLabel; place = place; right = leb h n }
 
 -- "9 no such function", where the functions have these numbers of parameters.
 abbrev pub function : List ℕ → ℕ → FunctionNumber → Name
-function ps place g = record { number = 9; place = place; right = ltb g (length ps) }
+function ps place g = record { number = missingFunction; place = place; right = ltb g (length ps) }
 
 -- "10 argument count unlike the callee's (at the count)."
 abbrev pub arity : List ℕ → ℕ → FunctionNumber → ℕ → Name
-arity ps place g n = record { number = 10; place = place; right = eqb n (getD ps g 0) }
+arity ps place g n = record { number = calleeArity; place = place; right = eqb n (getD ps g 0) }
 
 abbrev pub arguments : ℕ → ℕ → List Variable → List Name
 arguments v place [] = []

@@ -1,6 +1,8 @@
 // The names in a file: the refusals 7 to 10.
 use parsing::Checked;
 use parsing::Refusal;
+use parsing::or_else;
+use parsing::refusals;
 use procedure_layout::layout;
 use procedure_layout::layout::After;
 use procedure_operations::operation;
@@ -9,7 +11,7 @@ ghost use mathlib.Core.Path.{_≡_};
 ghost use mathlib.Core.List.{[], _∷_};
 ghost use Prim.Native.Nat.{_+_, _≤_, _<_};
 ghost use lib.ListN.{length, getD};
-ghost use Rattle.parsing.specs.Parser.{orElse, verdictOf};
+ghost use Rattle.parsing.specs.Parser.{verdictOf};
 ghost use Rattle.procedure_layout.specs.Layout.{argumentsAt};
 ghost use Rattle.procedure_operations.specs.Operation.{operationAt};
 ghost use Rattle.procedure_layout.specs.Rest.{restAt};
@@ -55,22 +57,15 @@ pub fn variable_number(x: u8, variables: usize) -> VariableFound
     }
 }
 
-// The first of two answers that refuses.
-fn or_else(a: Checked, b: Checked) -> Checked
-    ensures { λ r. ⌜ verdictOf r ≡ orElse (verdictOf a) (verdictOf b) ⌝ }
-{
-    match a {
-        Checked::Accepted => b,
-        Checked::Refused(r) => Checked::Refused(r),
-    }
-}
-
 fn variable_named(x: u8, variables: usize, place: usize) -> Checked
     ensures { λ r. ⌜ verdictOf r ≡ firstWrong (variable variables place x ∷ []) ⌝ }
 {
     match variable_number(x, variables) {
         VariableFound::Variable(_) => Checked::Accepted,
-        VariableFound::NoVariable => Checked::Refused(Refusal { number: 7, place }),
+        VariableFound::NoVariable => Checked::Refused(Refusal {
+            number: refusals::MISSING_VARIABLE,
+            place,
+        }),
     }
 }
 
@@ -78,12 +73,18 @@ fn label_named(l: u8, labels: usize, place: usize) -> Checked
     ensures { λ r. ⌜ verdictOf r ≡ firstWrong (label labels place l ∷ []) ⌝ }
 {
     if l == 0 {
-        return Checked::Refused(Refusal { number: 8, place });
+        return Checked::Refused(Refusal {
+            number: refusals::MISSING_LABEL,
+            place,
+        });
     }
     if (l as usize) <= labels {
         Checked::Accepted
     } else {
-        Checked::Refused(Refusal { number: 8, place })
+        Checked::Refused(Refusal {
+            number: refusals::MISSING_LABEL,
+            place,
+        })
     }
 }
 
@@ -105,7 +106,7 @@ fn callee_named(params: &[u8], g: u8, count: u8, at: usize) -> Checked
     let count_place = at + 3;
     match function_number(g, params.len()) {
         FunctionFound::NoFunction => Checked::Refused(Refusal {
-            number: 9,
+            number: refusals::MISSING_FUNCTION,
             place: function_place,
         }),
         FunctionFound::Function(callee) => {
@@ -113,7 +114,7 @@ fn callee_named(params: &[u8], g: u8, count: u8, at: usize) -> Checked
                 Checked::Accepted
             } else {
                 Checked::Refused(Refusal {
-                    number: 10,
+                    number: refusals::CALLEE_ARITY,
                     place: count_place,
                 })
             }
@@ -134,7 +135,10 @@ fn arguments_named(file: &[u8], at: usize, count: u8, variables: usize) -> Check
                 place += 1;
             }
             VariableFound::NoVariable => {
-                return Checked::Refused(Refusal { number: 7, place });
+                return Checked::Refused(Refusal {
+                    number: refusals::MISSING_VARIABLE,
+                    place,
+                });
             }
         }
     }
@@ -220,38 +224,30 @@ fn operation_named(
         return Checked::Accepted;
     }
     match o {
-        Operation::Constant {
-            target,
-            value: _,
-            next: _,
-        } => variable_named(target, variables, at + 1),
-        Operation::Copy {
-            target,
-            from,
-            next: _,
-        } => two_named(target, from, variables, at),
+        Operation::Constant { target, .. } => variable_named(target, variables, at + 1),
+        Operation::Copy { target, from, .. } => two_named(target, from, variables, at),
         Operation::Difference {
             target,
             left,
             right,
-            next: _,
+            ..
         } => three_named(target, left, right, variables, at),
         Operation::Call {
             target,
             function,
             count,
-            next: _,
+            ..
         } => call_named(file, at, target, function, count, params, variables),
-        Operation::Goto { label, next: _ } => label_named(label, labels, at + 1),
-        Operation::Return { variable, next: _ } => variable_named(variable, variables, at + 1),
+        Operation::Goto { label, .. } => label_named(label, labels, at + 1),
+        Operation::Return { variable, .. } => variable_named(variable, variables, at + 1),
         Operation::Branch {
             left,
             right,
             least,
             other,
-            next: _,
+            ..
         } => branch_named(at, left, right, least, other, variables, labels),
-        Operation::Raise { next: _ } => Checked::Accepted,
+        Operation::Raise { .. } => Checked::Accepted,
         Operation::Refused(_) => Checked::Accepted,
     }
 }

@@ -4,6 +4,7 @@ use mathlib.Core.Bool.{cond}
 use mathlib.Core.List.{List}
 use lib.Dec.{leb, eqb}
 use lib.ListN.{length, getD}
+use Rattle.parsing.specs.Refusals.{unknown}
 use Rattle.parsing.specs.Parser.{refusal}
 use Rattle.parsing.specs.Fields.{cut, valueAt}
 use Rattle.procedure_operations.specs.declared.operation.Operation.{Operation}
@@ -51,7 +52,7 @@ endAt s at number =
     (cond (eqb number 6) (returnAt s at)
     (cond (eqb number 7) (branchAt s at)
     (cond (eqb number 8) (Raise (at + 1))
-    (Refused (refusal 6 at)))))
+    (Refused (refusal unknown at)))))
 
 unfoldable pub operationAt : List ℕ → ℕ → Operation
 operationAt s at =

@@ -1,8 +1,10 @@
 // The operation at an offset.
 use parsing::Refusal;
+use parsing::refusals;
 ghost use mathlib.Core.Path.{_≡_};
 ghost use lib.ListN.{length};
 ghost use Prim.Native.Nat.{_+_, _<_};
+ghost use Rattle.parsing.specs.Fields.{cut};
 ghost use Rattle.procedure_operations.specs.Operation.{operationAt, constantAt, copyAt, differenceAt, callAt, gotoAt, returnAt, branchAt, endAt};
 
 // An operation as it stands in the file, with the offset past it. Its names are not judged here.
@@ -51,10 +53,10 @@ pub enum Operation {
 }
 
 fn cut(file: &[u8]) -> Operation
-    ensures { λ r. ⌜ r ≡ Operation.Refused (record { number = 3; place = length (now (file .entry)) }) ⌝ }
+    ensures { λ r. ⌜ r ≡ Operation.Refused (cut (now (file .entry))) ⌝ }
 {
     Operation::Refused(Refusal {
-        number: 3,
+        number: refusals::ENDS_EARLY,
         place: file.len(),
     })
 }
@@ -185,7 +187,7 @@ fn end_at(file: &[u8], at: usize, number: u8) -> Operation
         7 => branch_at(file, at),
         8 => Operation::Raise { next: at + 1 },
         _ => Operation::Refused(Refusal {
-            number: 6,
+            number: refusals::UNKNOWN,
             place: at,
         }),
     }
@@ -206,7 +208,7 @@ pub fn operation_at(file: &[u8], at: usize) -> Operation
         4 => call_at(file, at),
         5..=8 => end_at(file, at, number),
         _ => Operation::Refused(Refusal {
-            number: 6,
+            number: refusals::UNKNOWN,
             place: at,
         }),
     }

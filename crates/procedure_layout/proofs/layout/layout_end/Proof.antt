@@ -1,14 +1,14 @@
-use Rattle.procedure_layout.specs.LayoutLaws.{program-1, program-2, program-3, program-4, program-5}
+use Rattle.procedure_layout.specs.LayoutLaws.{program-1, program-2, program-3, program-4}
 use mathlib.Core.Path.{sym, _∙_}
 use borrow.Author.Needs.{needs}
 use Rattle.procedure_layout.proofs.layout.layout_end.Statement.{statement}
 use Rattle.procedure_layout.proofs.layout.layout_end.Tie as tie
 
-slice-aggregate-mark-end : tie.Need-slice-aggregate-mark-end
-slice-aggregate-mark-end c = search needs
+slice-aggregate-head-end : tie.Need-slice-aggregate-head-end
+slice-aggregate-head-end c = search needs
 
-mark-end-requires : tie.Need-mark-end-requires
-mark-end-requires c κs = search needs
+head-end-requires : tie.Need-head-end-requires
+head-end-requires c κs = search needs
 
 enum-known-r : tie.Need-enum-known-r
 enum-known-r c = search needs
@@ -16,20 +16,11 @@ enum-known-r c = search needs
 enum-told : tie.Need-enum-told
 enum-told c = search needs
 
-version-end-requires : tie.Need-version-end-requires
-version-end-requires c κs = search needs
-
-enum-known-r-2 : tie.Need-enum-known-r-2
-enum-known-r-2 c = search needs
-
-enum-told-2 : tie.Need-enum-told-2
-enum-told-2 c = search needs
-
 count-at-requires : tie.Need-count-at-requires
 count-at-requires c κs = search needs
 
-enum-known-r-3 : tie.Need-enum-known-r-3
-enum-known-r-3 c = search needs
+enum-known-r-2 : tie.Need-enum-known-r-2
+enum-known-r-2 c = search needs
 
 enum-known-n : tie.Need-enum-known-n
 enum-known-n c = search needs
@@ -37,8 +28,8 @@ enum-known-n c = search needs
 functions-end-requires : tie.Need-functions-end-requires
 functions-end-requires c κs = search needs
 
-enum-known-r-4 : tie.Need-enum-known-r-4
-enum-known-r-4 c = search needs
+enum-known-r-3 : tie.Need-enum-known-r-3
+enum-known-r-3 c = search needs
 
 enum-known-end : tie.Need-enum-known-end
 enum-known-end c = search needs
@@ -48,72 +39,53 @@ file-end-requires c κs = search needs
 
 returns : tie.Need-returns
 returns c =
-    let at-mark-end = c .before .before .before in
-    sym (program-1 _ _ (sym (at-mark-end .mark-end .ensures) ∙ c .before .r .given .1))
+    let at-head-end = c .before .before .before in
+    sym (program-1 _ _ (sym (at-head-end .head-end .ensures) ∙ c .before .r .given .1))
 
 returns-2 : tie.Need-returns-2
 returns-2 c =
-    let at-version-end = c .before .before .before in
-    let at-enum-told = at-version-end .before in
-    let at-mark-end = at-enum-told .before .before in
-    sym (program-2 _ _ (sym (at-mark-end .mark-end .ensures) ∙ at-enum-told .enum-told .given .1) _ (sym (at-version-end .version-end .ensures) ∙ c .before .r2 .given .1))
+    let at-count-at = c .before .before .before in
+    let at-enum-told = at-count-at .before in
+    let at-head-end = at-enum-told .before .before in
+    sym (program-2 _ _ (sym (at-head-end .head-end .ensures) ∙ at-enum-told .enum-told .given .1) _ (sym (at-count-at .count-at .ensures) ∙ c .before .r2 .given .1))
 
 returns-3 : tie.Need-returns-3
 returns-3 c =
-    let at-count-at = c .before .before .before in
-    let at-enum-told2 = at-count-at .before in
-    let at-version-end = at-enum-told2 .before .before in
-    let at-enum-told = at-version-end .before in
-    let at-mark-end = at-enum-told .before .before in
-    sym (program-3 _ _ (sym (at-mark-end .mark-end .ensures) ∙ at-enum-told .enum-told .given .1) _
-    (sym (at-version-end .version-end .ensures) ∙ at-enum-told2 .enum-told2 .given .1) _ (sym (at-count-at .count-at .ensures) ∙ c .before .r3 .given .1))
-
-returns-4 : tie.Need-returns-4
-returns-4 c =
     let at-functions-end = c .before .before .before in
     let at-n = at-functions-end .before .before in
     let at-count-at = at-n .before .before in
-    let at-enum-told2 = at-count-at .before in
-    let at-version-end = at-enum-told2 .before .before in
-    let at-enum-told = at-version-end .before in
-    let at-mark-end = at-enum-told .before .before in
-    sym (program-4 _ _ (sym (at-mark-end .mark-end .ensures) ∙ at-enum-told .enum-told .given .1) _
-    (sym (at-version-end .version-end .ensures) ∙ at-enum-told2 .enum-told2 .given .1) _ (sym (at-count-at .count-at .ensures) ∙ at-n .n .given .1) _
-    (sym (at-functions-end .functions-end .ensures) ∙ c .before .r4 .given .1))
+    let at-enum-told = at-count-at .before in
+    let at-head-end = at-enum-told .before .before in
+    sym (program-3 _ _ (sym (at-head-end .head-end .ensures) ∙ at-enum-told .enum-told .given .1) _ (sym (at-count-at .count-at .ensures) ∙ at-n .n .given .1) _
+    (sym (at-functions-end .functions-end .ensures) ∙ c .before .r3 .given .1))
 
-returns-5 : tie.Need-returns-5
-returns-5 c =
+returns-4 : tie.Need-returns-4
+returns-4 c =
     let at-functions-end = c .before .before .before .before in
     let at-n = at-functions-end .before .before in
     let at-count-at = at-n .before .before in
-    let at-enum-told2 = at-count-at .before in
-    let at-version-end = at-enum-told2 .before .before in
-    let at-enum-told = at-version-end .before in
-    let at-mark-end = at-enum-told .before .before in
+    let at-enum-told = at-count-at .before in
+    let at-head-end = at-enum-told .before .before in
     c .file-end .ensures ∙ sym
-    (program-5 _ _ (sym (at-mark-end .mark-end .ensures) ∙ at-enum-told .enum-told .given .1) _ (sym (at-version-end .version-end .ensures) ∙ at-enum-told2 .enum-told2 .given .1)
-    _ (sym (at-count-at .count-at .ensures) ∙ at-n .n .given .1) _ (sym (at-functions-end .functions-end .ensures) ∙ c .before .before .end .given .1))
+    (program-4 _ _ (sym (at-head-end .head-end .ensures) ∙ at-enum-told .enum-told .given .1) _ (sym (at-count-at .count-at .ensures) ∙ at-n .n .given .1) _
+    (sym (at-functions-end .functions-end .ensures) ∙ c .before .before .end .given .1))
 
 pub layout-end-spec : {M : Type 1} → statement M
 layout-end-spec =
     tie.close
     (tie.spec
-    slice-aggregate-mark-end
-    mark-end-requires
+    slice-aggregate-head-end
+    head-end-requires
     enum-known-r
     enum-told
-    version-end-requires
-    enum-known-r-2
-    enum-told-2
     count-at-requires
-    enum-known-r-3
+    enum-known-r-2
     enum-known-n
     functions-end-requires
-    enum-known-r-4
+    enum-known-r-3
     enum-known-end
     file-end-requires
     returns
     returns-2
     returns-3
-    returns-4
-    returns-5)
+    returns-4)
