@@ -10,8 +10,7 @@ use Rattle.semantics.specs.WellFormed.{All}
 use Rattle.parsing.specs.Parser.{accepted, joined}
 use Rattle.parsing.specs.Bytes.{Bytes, pairBytes}
 use Rattle.parsing.specs.BytesLaws.{pair-forth}
-use Rattle.parsing.specs.BytesAtLaws.{BytesAt, bytes-at-join, bytes-at-marked, bytes-at-version}
-use Rattle.parsing.specs.ReadsLaws.{reads-marked, reads-version}
+use Rattle.parsing.specs.BytesAtLaws.{BytesAt, bytes-at-join}
 use Rattle.target_layout.specs.Layout.{spc}
 use Rattle.target_file.specs.Writing.{size, targetBytes, writing, ConstantsFit, TargetInRange, InRange}
 use Rattle.target_file.specs.Check.{checkOf, codeOf}
@@ -19,6 +18,7 @@ use Rattle.target_file.specs.CodeLaws.{codeSize, CodeAt, Ranged, FileAt}
 use Rattle.target_file.specs.LoadedCodeLaws.{passed, passes, code-is}
 use Rattle.target_file.specs.WrittenLaws.{bytes-at-pair, expr-bytes-at, code-bytes-at}
 use Rattle.target_file.specs.ReadsBackLaws.{code-stands, joined-length}
+use Rattle.target_file.specs.BytesLaws.{writing-bytes}
 use Rattle.target_file.specs.Accepted.{HasFile, Acceptance}
 
 module _ (s : List ℕ) (bytes : Bytes s) where
@@ -33,13 +33,11 @@ module _ (s : List ℕ) (bytes : Bytes s) where
   unfolding writing
   file-written Q f =
       let w = f .whole in
-      let a = bytes-at-marked s spc 0 (f .mark) in
-      let b = bytes-at-version s 3 (f .versioned) in
       let c : BytesAt s 5 7 (pairBytes (length Q)) = subst (λ (n : ℕ). BytesAt s 5 7 (pairBytes n)) (f .counted) (bytes-at-pair s bytes 5 (omega arith)) in
       let d = code-bytes-at s bytes 7 Q (f .stands) in
-      let x = bytes-at-join s a (bytes-at-join s b (bytes-at-join s c d)) in
+      let x = bytes-at-join s (f .head) (bytes-at-join s c d) in
       let e : drop (7 + codeSize Q) s ≡ [] = ap (λ (n : ℕ). drop n s) (sym w) ∙ drop-length s in
-      x .stands ∙ ap (λ (r : List ℕ). (spc ++ ((1 ∷ 0 ∷ []) ++ (pairBytes (length Q) ++ joined targetBytes Q))) ++ r) e ∙ append-nil (writing Q)
+      x .stands ∙ ap (λ (r : List ℕ). ((spc ++ 1 ∷ 0 ∷ []) ++ (pairBytes (length Q) ++ joined targetBytes Q)) ++ r) e ∙ append-nil (writing Q)
 
 pub is-writing : (s : List ℕ) → Bytes s → checkOf s ≡ accepted → HasFile (codeOf s) × (s ≡ writing (codeOf s))
 is-writing s bytes e =
@@ -68,8 +66,7 @@ written-stands Q r =
     let s = writing Q in
     let h : drop 7 s ≡ j ++ [] = sym (append-nil j) in
     record {
-      mark = reads-marked spc .reads s 0 (1 ∷ 0 ∷ (pairBytes (length Q) ++ j)) refl;
-      versioned = reads-version .reads s 3 (pairBytes (length Q) ++ j) refl;
+      head = record { stands = refl; past = refl };
       counted = pair-forth (length Q);
       least = r .some;
       most = r .most;
@@ -86,7 +83,12 @@ is-accepted Q h =
 pub acceptance : Acceptance
 acceptance =
     record {
+      exactly = λ s bytes. (
+        (λ e. (codeOf s, is-writing s bytes e .0, is-writing s bytes e .1)),
+        (λ w. ap checkOf (w .2) ∙ is-accepted (w .0) (w .1) .0),
+      );
       isWriting = is-writing;
       isAccepted = is-accepted;
+      isBytes = writing-bytes;
       isUnique = λ Q R q r e. sym (is-accepted Q q .1) ∙ ap codeOf e ∙ is-accepted R r .1;
     }

@@ -1,15 +1,15 @@
 -- Laws of the checker's answer, as the functions that give it meet them.
-use Prim.Native.Nat.{ℕ, _≤_, _<_}
+use Prim.Native.Nat.{ℕ}
 use mathlib.Core.Path.{_≡_, ap, _∙_}
 use mathlib.Core.Bool.{true, false}
 use mathlib.Core.List.{List, []}
-use borrow.Author.Tests.{le-leb, lt-leb}
 use lib.ListN.{length, take}
 use Rattle.parsing.specs.declared.Refusal.{Refusal}
 use Rattle.parsing.specs.declared.Scan.the-variants.{Past, Stopped}
 use Rattle.parsing.specs.Parser.{Parsed, pastOf, accepted, refused}
 use Rattle.parsing.specs.ParserLaws.{past-read, past-refuse}
 use Rattle.target_layout.specs.Layout.{code}
+use Rattle.target_layout.specs.FileLaws.{read-code}
 use Rattle.target_file.specs.Check.{verdict, arities, checkOf, codeOf}
 
 module _ {A : Type 0} (x : Parsed A) where
@@ -31,14 +31,10 @@ module _ (s : List ℕ) where
     pub names-stop : (r : Refusal) → pastOf (code true ps s 0) ≡ Stopped r → refused (r .number) (r .place) ≡ verdict (code true (arities (codeOf s)) s 0)
     names-stop r e = verdict-stop (code true ps s 0) r e ∙ ap (λ l. verdict (code true l s 0)) table
 
-  pub check-long : 65535 < length s → refused 15 65535 ≡ checkOf s
+  pub check-stop : (r : Refusal) → pastOf (code false [] s 0) ≡ Stopped r → refused (r .number) (r .place) ≡ checkOf s
   unfolding checkOf
-  check-long h = rw (lt-leb (length s) 65535 h)
+  check-stop r e = rw (past-refuse (code false [] s 0) e)
 
-  pub check-stop : (r : Refusal) → length s ≤ 65535 → pastOf (code false [] s 0) ≡ Stopped r → refused (r .number) (r .place) ≡ checkOf s
-  unfolding checkOf
-  check-stop r h e = rw (le-leb (length s) 65535 h, past-refuse (code false [] s 0) e)
-
-  pub check-names : (n : ℕ) → length s ≤ 65535 → pastOf (code false [] s 0) ≡ Past n → verdict (code true (arities (codeOf s)) s 0) ≡ checkOf s
+  pub check-names : (n : ℕ) → pastOf (code false [] s 0) ≡ Past n → verdict (code true (arities (codeOf s)) s 0) ≡ checkOf s
   unfolding checkOf codeOf
-  check-names n h e = rw (le-leb (length s) 65535 h, past-read (code false [] s 0) e .is)
+  check-names n e = let r = past-read (code false [] s 0) e in rw (r .is, read-code false [] s (r .is) .2)

@@ -1,26 +1,29 @@
 -- The code that was read stands in the file, and code that stands in a file is read.
 use Prim.Native.Nat.{ℕ, _+_, _≤_}
 use mathlib.Core.Path.{_≡_, refl, sym, ap, _∙_, subst}
-use mathlib.Core.Bool.{Bool, true}
-use mathlib.Core.List.{List, [], _∷_}
+use mathlib.Core.Bool.{Bool, true, false}
+use mathlib.Core.List.{List, [], _∷_, _++_}
 use native.Mathlib.Omega.{arith}
 use borrow.Author.Tests.{le-leb}
-use lib.ListN.{length, getD}
+use lib.ListN.{length, getD, drop}
 use Rattle.semantics.specs.Code.{Expr, Target, Code}
 use Rattle.semantics.specs.WellFormed.{All}
+use Rattle.semantics.specs.SlotRules.{KeepsRules}
+use Rattle.semantics.specs.SlotRules as rules
 use Rattle.parsing.specs.Parser.{Parsed, read, andThen, many}
-use Rattle.parsing.specs.Fields.{byte, marked, version, count, ended}
+use Rattle.parsing.specs.Fields.{byte, count, ended}
 use Rattle.parsing.specs.ParserLaws.{sequence, read-count, ReadMany, none, one, read-many, byte-in}
-use Rattle.parsing.specs.BytesAtLaws.{bytes-at-marked, bytes-at-version, read-ended}
-use Rattle.parsing.specs.ReadsLaws.{reads-ended}
+use Rattle.parsing.specs.BytesAtLaws.{BytesAt, read-ended}
+use Rattle.parsing.specs.ReadsLaws.{reads-head, reads-ended}
 use Rattle.target_tags.specs.Tag.{pairAt}
 use Rattle.target_names.specs.Names.{entryKinds}
-use Rattle.target_layout.specs.Layout.{spc, sized, expression, function, functions, code}
+use Rattle.target_layout.specs.Layout.{spc, fileLimit, sized, expression, function, functions, targets, code}
+use Rattle.target_file.specs.Check.{arities}
 use Rattle.target_file.specs.Writing.{size, Nests}
 use Rattle.target_file.specs.LoadedCode.{ExprAt}
-use Rattle.target_layout.specs.PartLaws.{sized-read}
-use Rattle.target_layout.specs.FileLaws.{read-functions, functions-right}
-use Rattle.target_file.specs.RightLaws.{Right}
+use Rattle.target_layout.specs.PartLaws.{impossible, sized-read}
+use Rattle.target_layout.specs.FileLaws.{read-functions, functions-right, read-code}
+use Rattle.target_file.specs.RightLaws.{entry-like}
 use Rattle.target_file.specs.ReadLaws.{expression-found}
 use Rattle.target_file.specs.StandsLaws.{stands-inside, stands-within, sized-holds, expression-stands}
 
@@ -40,18 +43,18 @@ pub record Ranged (D : Target) : Type 0 where
   pub params : D .params ≤ 32
   pub levels : Nests 0 (D .body)
 
--- The names of a function are right.
-abbrev pub RightBody : List ℕ → Target → Type 0
-RightBody ps D = Right ps (entryKinds (D .params)) (D .body)
+-- A function keeps the slot rules, among functions Q.
+abbrev pub KeepsBody : Code → Target → Type 0
+KeepsBody Q D = KeepsRules Q 36 (rules.entryKinds (D .params)) (D .body)
 
-module _ (names : Bool) (ps s : List ℕ) where
+module _ (names : Bool) (ps s : List ℕ) (G : Code) (named : names ≡ true → ps ≡ arities G) where
   pub record FoundFunction (at : ℕ) (D : Target) (next : ℕ) : Type 0 where
     pub heading : getD s at 0 ≡ D .params
     pub sized : pairAt s (at + 1) ≡ size (D .body)
     pub here : ExprAt s (at + 3) (D .body)
     pub past : next ≡ at + 3 + size (D .body)
     pub ranged : Ranged D
-    pub right : names ≡ true → RightBody ps D
+    pub right : names ≡ true → KeepsBody G D
 
   function-found : (at : ℕ) (D : Target) (next : ℕ) → function names ps s at ≡ read D next → FoundFunction at D next
   unfolding function
@@ -68,7 +71,7 @@ module _ (names : Bool) (ps s : List ℕ) where
       go p e i is few r f =
           let z = sized-read (expression names ps 0 (entryKinds p)) s (at + 1) r in
           let q : at + 1 + 2 ≡ at + 3 = omega arith in
-          let x = expression-found names ps s 0 (entryKinds p) (at + 1 + 2) (z .reads) in
+          let x = expression-found names ps s G named 0 (entryKinds p) (at + 1 + 2) (z .reads) in
           let d : _≡_ {A = Target} (record { params = p; body = e }) D = cc in
           let n : i ≡ next = cc in
           subst (λ T. FoundFunction at T next) d
@@ -78,14 +81,14 @@ module _ (names : Bool) (ps s : List ℕ) where
             here = subst (λ (j : ℕ). ExprAt s j e) q (x .here);
             past = omega (arith, x .past);
             ranged = record { params = few; levels = x .nests };
-            right = x .right;
+            right = λ q. x .right q (rules.entryKinds p) (entry-like p (omega arith));
           })
 
   pub record FoundCode (at : ℕ) (Q : Code) (next : ℕ) : Type 0 where
     pub stands : CodeAt s at Q
     pub past : next ≡ at + codeSize Q
     pub ranged : All Ranged Q
-    pub right : names ≡ true → All (RightBody ps) Q
+    pub right : names ≡ true → All (KeepsBody G) Q
 
   functions-found : {at : ℕ} {Q : Code} {next : ℕ} → ReadMany (function names ps) s at Q next → FoundCode at Q next
   functions-found {at} none = record { stands = tt; past = omega arith; ranged = tt; right = λ q. tt }
@@ -99,19 +102,19 @@ module _ (names : Bool) (ps s : List ℕ) where
         right = λ q. (f .right q, g .right q);
       }
 
-  function-stands : (at : ℕ) (D : Target) → getD s at 0 ≡ D .params → pairAt s (at + 1) ≡ size (D .body) → ExprAt s (at + 3) (D .body) → Ranged D → (names ≡ true → RightBody ps D)
+  function-stands : (at : ℕ) (D : Target) → getD s at 0 ≡ D .params → pairAt s (at + 1) ≡ size (D .body) → ExprAt s (at + 3) (D .body) → Ranged D → (names ≡ true → KeepsBody G D)
       → function names ps s at ≡ read D (at + 3 + size (D .body))
   unfolding function count
   function-stands at D p z h g r =
       let i = stands-inside s (at + 3) (D .body) h in
       let q : at + 1 + 2 ≡ at + 3 = omega arith in
-      let x = expression-stands names ps s 0 (entryKinds (D .params)) (at + 1 + 2) (D .body) (subst (λ (j : ℕ). ExprAt s j (D .body)) (sym q) h) (g .levels) r in
+      let x = expression-stands names ps s G named 0 (rules.entryKinds (D .params)) (entryKinds (D .params)) (at + 1 + 2) (D .body) (subst (λ (j : ℕ). ExprAt s j (D .body)) (sym q) h) (g .levels) (λ t. entry-like (D .params) (omega (arith, g .params))) r in
       let m = sized-holds (expression names ps 0 (entryKinds (D .params))) s (at + 1) (size (D .body)) (omega arith) z x refl in
       let n : at + 1 + 2 + size (D .body) ≡ at + 3 + size (D .body) = omega arith in
       rw (byte-in s at (omega arith), p, le-leb 0 (D .params) (omega arith), le-leb (D .params) 32 (g .params), m)
       (ap (read D) n)
 
-  pub functions-stand : (at : ℕ) (Q : Code) → CodeAt s at Q → All Ranged Q → (names ≡ true → All (RightBody ps) Q)
+  pub functions-stand : (at : ℕ) (Q : Code) → CodeAt s at Q → All Ranged Q → (names ≡ true → All (KeepsBody G) Q)
       → many (length Q) (function names ps) s at ≡ read Q (at + codeSize Q)
   functions-stand at [] h g r = let q : at ≡ at + 0 = omega arith in ap (read []) q
   functions-stand at (D ∷ Q) h g r =
@@ -122,8 +125,7 @@ module _ (names : Bool) (ps s : List ℕ) where
 
 -- The code Q stands in the file s, within ranges and levels.
 pub record FileAt (s : List ℕ) (Q : Code) : Type 0 where
-  pub mark : marked spc s 0 ≡ read tt 3
-  pub versioned : version s 3 ≡ read tt 5
+  pub head : BytesAt s 0 5 (spc ++ 1 ∷ 0 ∷ [])
   pub counted : pairAt s 5 ≡ length Q
   pub least : 1 ≤ length Q
   pub most : length Q ≤ 2048
@@ -139,36 +141,30 @@ code-within s at (D ∷ Q) l h =
     let r = code-within s (at + 3 + size (D .body)) Q i (h .3) in
     omega arith
 
-module _ (names : Bool) (ps s : List ℕ) where
-  pub file-read : (Q : Code) (next : ℕ) → code names ps s 0 ≡ read Q next → FileAt s Q × (names ≡ true → All (RightBody ps) Q)
-  unfolding code
+module _ (names : Bool) (ps s : List ℕ) (G : Code) (named : names ≡ true → ps ≡ arities G) where
+  pub file-read : (Q : Code) (next : ℕ) → code names ps s 0 ≡ read Q next → FileAt s Q × (names ≡ true → All (KeepsBody G) Q)
+  unfolding targets
   file-read Q next w =
-      let a = sequence (marked spc s 0) (λ u m. andThen (version s m) (λ u₁ m₁. andThen (functions s m₁) (λ n m₂. andThen (many n (function names ps) s m₂) (λ R m₃. andThen (ended s m₃) (λ u₂ m₄. read R m₄))))) w in
-      let b = sequence (version s (a .middle)) (λ u₁ m₁. andThen (functions s m₁) (λ n m₂. andThen (many n (function names ps) s m₂) (λ R m₃. andThen (ended s m₃) (λ u₂ m₄. read R m₄)))) (a .follows) in
-      let c = sequence (functions s (b .middle)) (λ n m₂. andThen (many n (function names ps) s m₂) (λ R m₃. andThen (ended s m₃) (λ u₂ m₄. read R m₄))) (b .follows) in
+      let a = read-code names ps s w in
+      let c = sequence (functions s 5) (λ n m₂. andThen (many n (function names ps) s m₂) (λ R m₃. andThen (ended s m₃) (λ u₂ m₄. read R m₄))) (a .2) in
       let d = sequence (many (c .first) (function names ps) s (c .middle)) (λ R m₃. andThen (ended s m₃) (λ u₂ m₄. read R m₄)) (c .follows) in
       let e = sequence (ended s (d .middle)) (λ u₂ m₄. read (d .first) m₄) (d .follows) in
-      let p : a .middle ≡ 3 = bytes-at-marked s spc 0 (a .reads) .past in
-      let v : version s 3 ≡ read (b .first) (b .middle) = subst (λ (i : ℕ). version s i ≡ read (b .first) (b .middle)) p (b .reads) in
-      let q : b .middle ≡ 5 = bytes-at-version s 3 v .past in
-      let f : functions s 5 ≡ read (c .first) (c .middle) = subst (λ (i : ℕ). functions s i ≡ read (c .first) (c .middle)) q (c .reads) in
-      let n = read-functions s 5 f in
+      let n = read-functions s 5 (c .reads) in
       let r : many (c .first) (function names ps) s 7 ≡ read (d .first) (d .middle) = subst (λ (i : ℕ). many (c .first) (function names ps) s i ≡ read (d .first) (d .middle)) (n .past) (d .reads) in
       let g : _≡_ {A = Parsed Code} (read (d .first) (e .middle)) (read Q next) = e .follows in
       let t = read-ended s (d .middle) (e .reads) in
-      go (a .reads ∙ ap (read tt) p) (v ∙ ap (read tt) q) (c .first) (n .is) (n .least) (n .most) (n .inside) (d .first) (d .middle) r (cc) (t .0)
+      go (a .1) (c .first) (n .is) (n .least) (n .most) (n .inside) (d .first) (d .middle) r (cc) (t .0)
     where
-      go : marked spc s 0 ≡ read tt 3 → version s 3 ≡ read tt 5 → (n : ℕ) → n ≡ pairAt s 5 → 1 ≤ n → n ≤ 2048 → 5 + 2 ≤ length s → (R : Code) (m : ℕ)
-          → many n (function names ps) s 7 ≡ read R m → R ≡ Q → length s ≤ m → FileAt s Q × (names ≡ true → All (RightBody ps) Q)
-      go mk vs n is l h i R m r same t =
+      go : BytesAt s 0 5 (spc ++ 1 ∷ 0 ∷ []) → (n : ℕ) → n ≡ pairAt s 5 → 1 ≤ n → n ≤ 2048 → 5 + 2 ≤ length s → (R : Code) (m : ℕ)
+          → many n (function names ps) s 7 ≡ read R m → R ≡ Q → length s ≤ m → FileAt s Q × (names ≡ true → All (KeepsBody G) Q)
+      go top n is l h i R m r same t =
           let x = read-many (function names ps) s n 7 r in
-          let y = functions-found names ps s (x .0) in
+          let y = functions-found names ps s G named (x .0) in
           let c : length R ≡ n = x .1 in
           let w = code-within s 7 R (omega arith) (y .stands) in
-          subst (λ T. FileAt s T × (names ≡ true → All (RightBody ps) T)) same (
+          subst (λ T. FileAt s T × (names ≡ true → All (KeepsBody G) T)) same (
             record {
-              mark = mk;
-              versioned = vs;
+              head = top;
               counted = sym is ∙ sym c;
               least = omega arith;
               most = omega arith;
@@ -179,11 +175,28 @@ module _ (names : Bool) (ps s : List ℕ) where
             y .right,
           )
 
-  pub file-stands : (Q : Code) → FileAt s Q → (names ≡ true → All (RightBody ps) Q) → code names ps s 0 ≡ read Q (length s)
-  unfolding code
-  file-stands Q f r =
+  pub targets-stand : (Q : Code) → FileAt s Q → (names ≡ true → All (KeepsBody G) Q) → targets names ps s 5 ≡ read Q (length s)
+  unfolding targets
+  targets-stand Q f r =
       let w = f .whole in
       let n = functions-right s 5 (length Q) (omega arith) (sym (f .counted)) (f .least) (f .most) in
-      let m = functions-stand names ps s 7 Q (f .stands) (f .ranged) r in
+      let m = functions-stand names ps s G named 7 Q (f .stands) (f .ranged) r in
       let e = reads-ended s (7 + codeSize Q) (omega arith) in
-      rw (f .mark, f .versioned, n, m, e) (ap (read Q) (sym w))
+      rw (n, m, e) (ap (read Q) (sym w))
+
+  pub file-stands : (Q : Code) → FileAt s Q → length s ≤ fileLimit → (names ≡ true → All (KeepsBody G) Q) → code names ps s 0 ≡ read Q (length s)
+  unfolding code
+  file-stands Q f l r = rw (reads-head spc fileLimit s (drop 5 s) (f .head .stands) l) (targets-stand Q f r)
+
+-- Where no names are judged.
+unnamed : {A : Type 0} → false ≡ true → A
+unnamed q = impossible (cc)
+
+pub laid-read : (s : List ℕ) (Q : Code) (next : ℕ) → code false [] s 0 ≡ read Q next → FileAt s Q
+laid-read s Q next e = file-read false [] s [] unnamed Q next e .0
+
+pub laid-targets : (s : List ℕ) (Q : Code) → FileAt s Q → targets false [] s 5 ≡ read Q (length s)
+laid-targets s Q f = targets-stand false [] s [] unnamed Q f unnamed
+
+pub laid-stands : (s : List ℕ) (Q : Code) → FileAt s Q → length s ≤ fileLimit → code false [] s 0 ≡ read Q (length s)
+laid-stands s Q f l = file-stands false [] s [] unnamed Q f l unnamed

@@ -17,31 +17,22 @@ use Rattle.parsing.specs.ReadsLaws.{byte-here, first-here, length-here, next-he
 use Rattle.target_tags.specs.declared.tag.Tag.the-variants.{Constant, Copy, Difference, Jump, Resume, Handle, Branch, Continuation, ContinuationWithHandler}
 use Rattle.target_tags.specs.Tag.{pairAt, tagAt}
 use Rattle.target_tags.specs.TagLaws.{tag-1, tag-2, tag-3, tag-4, tag-5, tag-6, tag-7, tag-8, tag-9, constant-in, copy-in, difference-in, jump-in, resume-in, handle-in, branch-in, continuation-in, tag-9-in}
-use Rattle.target_file.specs.Writing.{size, exprBytes, targetBytes, ConstantsFit}
+use Rattle.target_file.specs.Writing.{Parts, ends, bytes, constant, nested, partsOf, partsSize, partsBytes, size, exprBytes, targetBytes, ConstantsFit}
 use Rattle.target_file.specs.LoadedCode.{ExprAt}
 use Rattle.target_file.specs.CodeLaws.{codeSize, CodeAt}
 use Rattle.semantics.specs.WellFormed.{All}
 
+parts-length : (p : Parts) → length (partsBytes p) ≡ partsSize p
+parts-length (ends ss) = refl
+parts-length (bytes w r) = length-append w (partsBytes r) ∙ ap (λ (n : ℕ). length w + n) (parts-length r)
+parts-length (constant i r) = let a = parts-length r in omega arith
+parts-length (nested p r) =
+    let a = parts-length p in
+    let b = parts-length r in
+    omega (arith, length-append (partsBytes p) (partsBytes r))
+
 pub bytes-length : (e : Expr) → length (exprBytes e) ≡ size e
-bytes-length (letConstant x i e) = let l = bytes-length e in omega arith
-bytes-length (letSlot x y e) = let l = bytes-length e in omega arith
-bytes-length (letDifference x y z e) = let l = bytes-length e in omega arith
-bytes-length (jump g k h ss) = omega arith
-bytes-length (resume k y) = refl
-bytes-length (handle h) = refl
-bytes-length (ifAtMost y z e₁ e₂) =
-    let a = bytes-length e₁ in
-    let b = bytes-length e₂ in
-    omega (arith, length-append (exprBytes e₁) (exprBytes e₂))
-bytes-length (letContinuation x p e k) =
-    let a = bytes-length e in
-    let b = bytes-length k in
-    omega (arith, length-append (exprBytes e) (exprBytes k))
-bytes-length (letContinuationWithHandler x p t e h k) =
-    let a = bytes-length e in
-    let b = bytes-length h in
-    let c = bytes-length k in
-    omega (arith, length-append (exprBytes e) (pairBytes (size h) ++ (exprBytes h ++ exprBytes k)), length-append (exprBytes h) (exprBytes k))
+bytes-length e = parts-length (partsOf e)
 
 module _ (s : List ℕ) where
   -- A field of two bytes, i bytes behind an offset.
@@ -166,8 +157,8 @@ module _ (s : List ℕ) where
         tag-9-here at l x p t (size e) h,
         z,
         expr-stands (at + 6) e (r ++ rest) (f .0) n,
-        expr-stands (o + 2) c (exprBytes k ++ rest) (f .1) d,
-        expr-stands (o + 2 + size c) k rest (f .2) (past-expr (o + 2) c (exprBytes k ++ rest) d),
+        expr-stands (o + 2) c (exprBytes k ++ rest) (f .1 .0) d,
+        expr-stands (o + 2 + size c) k rest (f .1 .1) (past-expr (o + 2) c (exprBytes k ++ rest) d),
       )
 
   pub code-stands : (at : ℕ) (Q : Code) (rest : List ℕ) → All (λ D. ConstantsFit (D .body)) Q → drop at s ≡ joined targetBytes Q ++ rest → CodeAt s at Q

@@ -1,40 +1,102 @@
--- The names of a node that are right, as facts about its slots.
+-- Names are judged right exactly where the slot rules of `semantics` are kept: the kinds of slots 0 to 35 as numbers and as kinds, and
+-- functions by their numbers of parameters.
 use Prim.Native.Nat.{ℕ, zero, suc, _+_, _≤_, _<_}
-use mathlib.Core.Path.{_≡_, refl}
+use mathlib.Core.Path.{_≡_, refl, sym, ap, _∙_, subst}
 use mathlib.Core.Logic.{_≢_}
 use mathlib.Core.Bool.{Bool, true, false, cond}
 use mathlib.Core.List.{List, _∷_}
 use native.Mathlib.Omega.{arith}
 use native.Mathlib.Numerals.{add-one}
+use native.Mathlib.Decide.{ℕ-discrete}
 use borrow.Author.Tests.{ltb-true, lt-ltb, eqb-true, eqb-false, eq-eqb, ne-eqb}
 use lib.Dec.{ltb, eqb}
-use lib.ListN.{length, getD}
-use lib.Seq.{drop-cons}
-use Rattle.semantics.specs.Code.{Expr, letConstant, letSlot, letDifference, jump, resume, handle, ifAtMost, letContinuation, letContinuationWithHandler}
+use lib.ListN.{length, getD, set, replicate, length-set, length-map, List·getD-map}
+use lib.Seq.{drop-cons, getD-set-same, getD-set-other}
+use Rattle.semantics.specs.Code.{Target, Code}
+use Rattle.semantics.specs.Controller.{noTarget, targetOf, put}
 use Rattle.semantics.specs.WellFormed.{All}
+use Rattle.semantics.specs.SlotRules.{Kind, unboundKind, wholeKind, continuationKind, handlerKind, Kinds, kindAt, bindKind, IsBound}
+use Rattle.semantics.specs.SlotRules as rules
+use Rattle.semantics.specs.ListLaws.{put-same, put-other}
 use Rattle.parsing.specs.declared.Checked.{Checked}
 use Rattle.parsing.specs.declared.Checked.the-variants.{Accepted, Refused}
 use Rattle.parsing.specs.Parser.{refusal}
-use Rattle.target_names.specs.Names.{_andAlso_, unless, binds, reads, differ, function, arity, values, bound}
+use Rattle.target_names.specs.Names.{_andAlso_, unless, binds, reads, differ, function, arity, values, bound, entryKinds}
 use Rattle.target_layout.specs.Layout.{slotsAt}
 use Rattle.target_layout.specs.PartLaws.{impossible}
+use Rattle.target_file.specs.Check.{arities}
 
--- A slot that is read as one of kind k.
-abbrev pub IsKind : List ℕ → ℕ → ℕ → Type 0
-IsKind ks k x = (x < 36) × (getD ks x 0 ≡ k)
+-- ── Kinds as numbers ────────────────────────────────────────────────────────────────────────────
 
--- The names of an expression are right, where the slots have these kinds and functions these numbers of parameters.
-abbrev pub Right : List ℕ → List ℕ → Expr → Type 0
-Right ps ks (letConstant x i e) = (x < 36) × Right ps (bound ks x 1) e
-Right ps ks (letSlot x y e) = (x < 36) × IsKind ks 1 y × Right ps (bound ks x 1) e
-Right ps ks (letDifference x y z e) = (x < 36) × IsKind ks 1 y × IsKind ks 1 z × Right ps (bound ks x 1) e
-Right ps ks (jump g k h ss) = (g < length ps) × IsKind ks 2 k × IsKind ks 3 h × (length ss ≡ getD ps g 0) × All (IsKind ks 1) ss
-Right ps ks (resume k y) = IsKind ks 2 k × IsKind ks 1 y
-Right ps ks (handle h) = IsKind ks 3 h
-Right ps ks (ifAtMost y z e₁ e₂) = IsKind ks 1 y × IsKind ks 1 z × Right ps ks e₁ × Right ps ks e₂
-Right ps ks (letContinuation x p e k) = (x < 36) × (p < 36) × Right ps (bound ks x 2) e × Right ps (bound ks p 1) k
-Right ps ks (letContinuationWithHandler x p t e h k) =
-    (x < 36) × (p < 36) × (t < 36) × (x ≢ t) × Right ps (bound (bound ks x 2) t 3) e × Right ps ks h × Right ps (bound ks p 1) k
+abbrev kindNumber : Kind → ℕ
+kindNumber unboundKind = 0
+kindNumber wholeKind = 1
+kindNumber continuationKind = 2
+kindNumber handlerKind = 3
+
+abbrev kindOf : ℕ → Kind
+kindOf zero = unboundKind
+kindOf (suc zero) = wholeKind
+kindOf (suc (suc zero)) = continuationKind
+kindOf (suc (suc (suc n))) = handlerKind
+
+number-kind : (k : Kind) → kindOf (kindNumber k) ≡ k
+number-kind unboundKind = refl
+number-kind wholeKind = refl
+number-kind continuationKind = refl
+number-kind handlerKind = refl
+
+same-kind : (k l : Kind) → kindNumber k ≡ kindNumber l → k ≡ l
+same-kind k l e = sym (number-kind k) ∙ ap kindOf e ∙ number-kind l
+
+-- The numbers are those of the kinds.
+pub record Like (KS : Kinds) (ks : List ℕ) : Type 0 where
+  pub slotCount : length ks ≡ 36
+  pub same : (x : ℕ) → x < 36 → getD ks x 0 ≡ kindNumber (kindAt KS x)
+
+pub like-bind : {KS : Kinds} {ks : List ℕ} (x : ℕ) (k : Kind) → x < 36 → Like KS ks → Like (bindKind KS x k) (bound ks x (kindNumber k))
+unfolding bound
+like-bind {KS} {ks} x k h l =
+    rw (lt-ltb x 36 h)
+    (record { slotCount = length-set ks x (kindNumber k) ∙ l .slotCount; same = same })
+  where
+    same : (y : ℕ) → y < 36 → getD (set ks x (kindNumber k)) y 0 ≡ kindNumber (kindAt (bindKind KS x k) y)
+    same y i = go (ℕ-discrete x y)
+      where
+        go : Dec (x ≡ y) → getD (set ks x (kindNumber k)) y 0 ≡ kindNumber (kindAt (bindKind KS x k) y)
+        go (yes e) =
+            let w = l .slotCount in
+            subst (λ (z : ℕ). getD (set ks x (kindNumber k)) z 0 ≡ kindNumber (kindAt (bindKind KS x k) z)) e
+            (getD-set-same ks x (kindNumber k) 0 (omega arith) ∙ ap kindNumber (sym (put-same unboundKind KS x k)))
+        go (no d) =
+            getD-set-other ks x y (kindNumber k) 0 (λ (e : y ≡ x). d (sym e))
+            ∙ l .same y i ∙ ap kindNumber (sym (put-other unboundKind KS x y k d))
+
+-- The kinds with which a function begins.
+put-after : (n : ℕ) → put unboundKind (replicate n wholeKind) n wholeKind ≡ replicate (suc n) wholeKind
+put-after zero = refl
+put-after (suc n) = ap (λ (l : Kinds). wholeKind ∷ l) (put-after n)
+
+pub entry-like : (n : ℕ) → n ≤ 34 → Like (rules.entryKinds n) (entryKinds n)
+unfolding entryKinds
+entry-like zero h = record { slotCount = refl; same = none }
+  where
+    zeros : (m x : ℕ) → _≡_ {A = ℕ} (getD (replicate m 0) x 0) 0
+    zeros zero x = refl
+    zeros (suc m) zero = refl
+    zeros (suc m) (suc x) = zeros m x
+
+    none : (x : ℕ) → x < 36 → getD (entryKinds 0) x 0 ≡ kindNumber (kindAt (rules.entryKinds 0) x)
+    none zero i = refl
+    none (suc zero) i = refl
+    none (suc (suc x)) i = zeros 34 x
+entry-like (suc n) h =
+    let p : 2 + n ≡ suc (suc n) = omega arith in
+    let l = like-bind (2 + n) wholeKind (omega arith) (entry-like n (omega arith)) in
+    subst (λ KS. Like KS (bound (entryKinds n) (2 + n) 1))
+    (ap (λ (i : ℕ). bindKind (rules.entryKinds n) i wholeKind) p ∙ ap (λ (t : Kinds). continuationKind ∷ handlerKind ∷ t) (put-after n)) l
+
+-- ── Names ───────────────────────────────────────────────────────────────────────────────────────
 
 unless-right : (t : Bool) (n place : ℕ) → unless t n place ≡ Accepted → t ≡ true
 unless-right true n place e = refl
@@ -56,16 +118,17 @@ module _ (place x : ℕ) where
   unfolding binds
   binds-holds h = rw (lt-ltb x 36 h)
 
-module _ (ks : List ℕ) (k place x : ℕ) where
-  pub reads-right : reads ks k place x ≡ Accepted → IsKind ks k x
+module _ {KS : Kinds} {ks : List ℕ} (l : Like KS ks) (k : Kind) (place x : ℕ) where
+  pub reads-right : reads ks (kindNumber k) place x ≡ Accepted → IsBound 36 KS k x
   unfolding reads
   reads-right e =
-      let p = also-right (binds place x) (unless (eqb (getD ks x 0) k) 11 place) e in
-      (binds-right place x (p .0), eqb-true (getD ks x 0) k (unless-right (eqb (getD ks x 0) k) 11 place (p .1)))
+      let p = also-right (binds place x) (unless (eqb (getD ks x 0) (kindNumber k)) 11 place) e in
+      let b = binds-right place x (p .0) in
+      (b, same-kind (kindAt KS x) k (sym (l .same x b) ∙ eqb-true (getD ks x 0) (kindNumber k) (unless-right (eqb (getD ks x 0) (kindNumber k)) 11 place (p .1))))
 
-  pub reads-holds : IsKind ks k x → reads ks k place x ≡ Accepted
+  pub reads-holds : IsBound 36 KS k x → reads ks (kindNumber k) place x ≡ Accepted
   unfolding reads
-  reads-holds h = rw (binds-holds place x (h .0), eq-eqb (getD ks x 0) k (h .1))
+  reads-holds h = rw (binds-holds place x (h .0), eq-eqb (getD ks x 0) (kindNumber k) (l .same x (h .0) ∙ ap kindNumber (h .1)))
 
 module _ (place x t : ℕ) where
   pub differ-right : differ place x t ≡ Accepted → x ≢ t
@@ -80,35 +143,41 @@ module _ (place x t : ℕ) where
   unfolding differ
   differ-holds h = rw (ne-eqb x t h)
 
-module _ (ps : List ℕ) (place g : ℕ) where
-  pub function-right : function ps place g ≡ Accepted → g < length ps
+module _ {ps : List ℕ} (Q : Code) (named : ps ≡ arities Q) (place g : ℕ) where
+  params-at : getD ps g 0 ≡ targetOf Q g .params
+  params-at = ap (λ (l : List ℕ). getD l g 0) named ∙ List·getD-map (λ (D : Target). D .params) Q g noTarget
+
+  functions-of : length ps ≡ length Q
+  functions-of = ap length named ∙ length-map Q (λ (D : Target). D .params)
+
+  pub function-right : function ps place g ≡ Accepted → g < length Q
   unfolding function
-  function-right e = ltb-true g (length ps) (unless-right (ltb g (length ps)) 9 place e)
+  function-right e = omega (arith, ltb-true g (length ps) (unless-right (ltb g (length ps)) 9 place e), functions-of)
 
-  pub function-holds : g < length ps → function ps place g ≡ Accepted
+  pub function-holds : g < length Q → function ps place g ≡ Accepted
   unfolding function
-  function-holds h = rw (lt-ltb g (length ps) h)
+  function-holds h = rw (lt-ltb g (length ps) (omega (arith, h, functions-of)))
 
-  pub arity-right : (n : ℕ) → arity ps place g n ≡ Accepted → n ≡ getD ps g 0
+  pub arity-right : (n : ℕ) → arity ps place g n ≡ Accepted → n ≡ targetOf Q g .params
   unfolding arity
-  arity-right n e = eqb-true n (getD ps g 0) (unless-right (eqb n (getD ps g 0)) 10 place e)
+  arity-right n e = eqb-true n (getD ps g 0) (unless-right (eqb n (getD ps g 0)) 10 place e) ∙ params-at
 
-  pub arity-holds : (n : ℕ) → n ≡ getD ps g 0 → arity ps place g n ≡ Accepted
+  pub arity-holds : (n : ℕ) → n ≡ targetOf Q g .params → arity ps place g n ≡ Accepted
   unfolding arity
-  arity-holds n e = rw (eq-eqb n (getD ps g 0) e)
+  arity-holds n e = rw (eq-eqb n (getD ps g 0) (e ∙ sym params-at))
 
 slots-cons : (s : List ℕ) (at n : ℕ) → at + suc n ≤ length s → slotsAt s at (suc n) ≡ getD s at 0 ∷ slotsAt s (at + 1) n
 slots-cons s at n h = rw (drop-cons s at 0 (omega arith), add-one at)
 
-module _ (ks s : List ℕ) where
-  pub values-right : (n at : ℕ) → at + n ≤ length s → values ks s at n ≡ Accepted → All (IsKind ks 1) (slotsAt s at n)
+module _ {KS : Kinds} {ks : List ℕ} (l : Like KS ks) (s : List ℕ) where
+  pub values-right : (n at : ℕ) → at + n ≤ length s → values ks s at n ≡ Accepted → All (IsBound 36 KS wholeKind) (slotsAt s at n)
   values-right zero at h e = tt
   values-right (suc n) at h e =
       let p = also-right (reads ks 1 at (getD s at 0)) (values ks s (at + 1) n) e in
-      rw (slots-cons s at n h) (reads-right ks 1 at (getD s at 0) (p .0), values-right n (at + 1) (omega arith) (p .1))
+      rw (slots-cons s at n h) (reads-right l wholeKind at (getD s at 0) (p .0), values-right n (at + 1) (omega arith) (p .1))
 
-  pub values-holds : (n at : ℕ) → at + n ≤ length s → All (IsKind ks 1) (slotsAt s at n) → values ks s at n ≡ Accepted
+  pub values-holds : (n at : ℕ) → at + n ≤ length s → All (IsBound 36 KS wholeKind) (slotsAt s at n) → values ks s at n ≡ Accepted
   values-holds zero at h a = refl
   values-holds (suc n) at h a =
-      let b : All (IsKind ks 1) (getD s at 0 ∷ slotsAt s (at + 1) n) = rw (slots-cons s at n h) at a in
-      also-holds (reads-holds ks 1 at (getD s at 0) (b .0)) (values-holds n (at + 1) (omega arith) (b .1))
+      let b : All (IsBound 36 KS wholeKind) (getD s at 0 ∷ slotsAt s (at + 1) n) = rw (slots-cons s at n h) at a in
+      also-holds (reads-holds l wholeKind at (getD s at 0) (b .0)) (values-holds n (at + 1) (omega arith) (b .1))

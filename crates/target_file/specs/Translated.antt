@@ -9,6 +9,7 @@ use Rattle.semantics.specs.Program.{Block, constant, copy, difference, call, go
 use Rattle.semantics.specs.WellFormed.{All, WellFormed}
 use Rattle.semantics.specs.Translation.{translate}
 use Rattle.parsing.specs.Parser.{accepted}
+use Rattle.target_layout.specs.Layout.{fileLimit}
 use Rattle.target_file.specs.Writing.{writing}
 use Rattle.target_file.specs.Check.{checkOf, codeOf}
 
@@ -40,5 +41,5 @@ pub record Source (P : Program) : Type 0 where
 
 -- The writing of its translation is accepted exactly when it is at most 65,535 bytes long, and reads back as that translation.
 pub record TranslationAccepted : Type 0 where
-  pub fits : (P : Program) → Source P → (checkOf (writing (translate P)) ≡ accepted) ↔ (length (writing (translate P)) ≤ 65535)
+  pub fits : (P : Program) → Source P → (checkOf (writing (translate P)) ≡ accepted) ↔ (length (writing (translate P)) ≤ fileLimit)
   pub readsBack : (P : Program) → Source P → codeOf (writing (translate P)) ≡ translate P

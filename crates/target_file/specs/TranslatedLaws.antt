@@ -30,7 +30,7 @@ module _ (numbers : FunctionNumber → ℕ) (base v : ℕ) where
   code-fits h (copy x y b) f = code-fits h b f
   code-fits h (difference x y z b) f = code-fits h b f
   code-fits zero (call x g ys b) f = (tt, code-fits zero b f)
-  code-fits (suc l) (call x g ys b) f = (tt, tt, code-fits (suc l) b f)
+  code-fits (suc l) (call x g ys b) f = (tt, (tt, code-fits (suc l) b f))
   code-fits h (goto l) f = tt
   code-fits h (return x) f = tt
   code-fits h (branch y z l m) f = (tt, tt)
@@ -44,7 +44,7 @@ module _ (numbers : FunctionNumber → ℕ) (base v : ℕ) where
   code-nests h (copy x y b) = code-nests h b
   code-nests h (difference x y z b) = code-nests h b
   code-nests zero (call x g ys b) = (omega arith, tt, code-nests zero b)
-  code-nests (suc l) (call x g ys b) = (omega arith, tt, tt, code-nests (suc l) b)
+  code-nests (suc l) (call x g ys b) = (omega arith, tt, (omega arith, tt, code-nests (suc l) b))
   code-nests h (goto l) = tt
   code-nests h (return x) = tt
   code-nests h (branch y z l m) = (omega arith, tt, tt)

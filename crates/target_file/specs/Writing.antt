@@ -4,34 +4,50 @@ use mathlib.Core.List.{List, [], _∷_, _++_}
 use lib.ListN.{length}
 use mir.Syntax.{w32}
 use mir.Val.{SFits}
-use Rattle.semantics.specs.Code.{Expr, letConstant, letSlot, letDifference, jump, resume, handle, ifAtMost, letContinuation, letContinuationWithHandler, Target, Code}
+use lib.IntN.{ℤ}
+use Rattle.semantics.specs.Code.{Slot, Expr, letConstant, letSlot, letDifference, jump, resume, handle, ifAtMost, letContinuation, letContinuationWithHandler, Target, Code}
 use Rattle.semantics.specs.WellFormed.{All}
 use Rattle.parsing.specs.Parser.{joined}
 use Rattle.parsing.specs.Bytes.{pairBytes, valueBytes}
+use Rattle.target_layout.specs.Layout.{maxFunctions}
 
--- How many bytes an expression takes. "A jump takes 6 bytes and one per value."
+-- The parts of an expression, in the order in which they are written.
+pub data Parts : Type 0 where
+  ends : List Slot → Parts  -- the slots of a jump, or none, and nothing more
+  bytes : List ℕ → Parts → Parts  -- a tag and its fields; then the rest
+  constant : ℤ → Parts → Parts  -- a constant; then the rest
+  nested : Parts → Parts → Parts  -- a nested part behind its length of 16 bits; then the rest
+
+-- "Bodies by tag."
+abbrev pub partsOf : Expr → Parts
+partsOf (letConstant x i e) = bytes (1 ∷ x ∷ []) (constant i (partsOf e))
+partsOf (letSlot x y e) = bytes (2 ∷ x ∷ y ∷ []) (partsOf e)
+partsOf (letDifference x y z e) = bytes (3 ∷ x ∷ y ∷ z ∷ []) (partsOf e)
+partsOf (jump g k h ss) = bytes (4 ∷ (pairBytes g ++ (k ∷ h ∷ length ss ∷ []))) (ends ss)
+partsOf (resume k y) = bytes (5 ∷ k ∷ y ∷ []) (ends [])
+partsOf (handle h) = bytes (6 ∷ h ∷ []) (ends [])
+partsOf (ifAtMost y z e₁ e₂) = bytes (7 ∷ y ∷ z ∷ []) (nested (partsOf e₁) (partsOf e₂))
+partsOf (letContinuation x p e k) = bytes (8 ∷ x ∷ p ∷ []) (nested (partsOf e) (partsOf k))
+partsOf (letContinuationWithHandler x p t e h k) = bytes (9 ∷ x ∷ p ∷ t ∷ []) (nested (partsOf e) (nested (partsOf h) (partsOf k)))
+
+-- How many bytes parts take.
+abbrev pub partsSize : Parts → ℕ
+partsSize (ends ss) = length ss
+partsSize (bytes w r) = length w + partsSize r
+partsSize (constant i r) = 4 + partsSize r
+partsSize (nested p r) = 2 + (partsSize p + partsSize r)
+
+abbrev pub partsBytes : Parts → List ℕ
+partsBytes (ends ss) = ss
+partsBytes (bytes w r) = w ++ partsBytes r
+partsBytes (constant i r) = valueBytes i ++ partsBytes r
+partsBytes (nested p r) = pairBytes (partsSize p) ++ (partsBytes p ++ partsBytes r)
+
 abbrev pub size : Expr → ℕ
-size (letConstant x i e) = 6 + size e
-size (letSlot x y e) = 3 + size e
-size (letDifference x y z e) = 4 + size e
-size (jump g k h ss) = 6 + length ss
-size (resume k y) = 3
-size (handle h) = 2
-size (ifAtMost y z e₁ e₂) = 5 + (size e₁ + size e₂)
-size (letContinuation x p e k) = 5 + (size e + size k)
-size (letContinuationWithHandler x p t e h k) = 8 + (size e + (size h + size k))
+size e = partsSize (partsOf e)
 
 abbrev pub exprBytes : Expr → List ℕ
-exprBytes (letConstant x i e) = 1 ∷ x ∷ (valueBytes i ++ exprBytes e)
-exprBytes (letSlot x y e) = 2 ∷ x ∷ y ∷ exprBytes e
-exprBytes (letDifference x y z e) = 3 ∷ x ∷ y ∷ z ∷ exprBytes e
-exprBytes (jump g k h ss) = 4 ∷ (pairBytes g ++ (k ∷ h ∷ length ss ∷ ss))
-exprBytes (resume k y) = 5 ∷ k ∷ y ∷ []
-exprBytes (handle h) = 6 ∷ h ∷ []
-exprBytes (ifAtMost y z e₁ e₂) = 7 ∷ y ∷ z ∷ (pairBytes (size e₁) ++ (exprBytes e₁ ++ exprBytes e₂))
-exprBytes (letContinuation x p e k) = 8 ∷ x ∷ p ∷ (pairBytes (size e) ++ (exprBytes e ++ exprBytes k))
-exprBytes (letContinuationWithHandler x p t e h k) =
-    9 ∷ x ∷ p ∷ t ∷ (pairBytes (size e) ++ (exprBytes e ++ (pairBytes (size h) ++ (exprBytes h ++ exprBytes k))))
+exprBytes e = partsBytes (partsOf e)
 
 -- "Each function: parameter count (0 to 32), body length (16 bits), body."
 abbrev pub targetBytes : Target → List ℕ
@@ -41,29 +57,24 @@ unfoldable pub writing : Code → List ℕ
 writing Q = 83 ∷ 80 ∷ 67 ∷ 1 ∷ 0 ∷ (pairBytes (length Q) ++ joined targetBytes Q)
 
 -- "Values are signed 32-bit."
-abbrev pub ConstantsFit : Expr → Type 0
-ConstantsFit (letConstant x i e) = SFits w32 i × ConstantsFit e
-ConstantsFit (letSlot x y e) = ConstantsFit e
-ConstantsFit (letDifference x y z e) = ConstantsFit e
-ConstantsFit (jump g k h ss) = Unit {0}
-ConstantsFit (resume k y) = Unit {0}
-ConstantsFit (handle h) = Unit {0}
-ConstantsFit (ifAtMost y z e₁ e₂) = ConstantsFit e₁ × ConstantsFit e₂
-ConstantsFit (letContinuation x p e k) = ConstantsFit e × ConstantsFit k
-ConstantsFit (letContinuationWithHandler x p t e h k) = ConstantsFit e × ConstantsFit h × ConstantsFit k
+abbrev pub PartsFit : Parts → Type 0
+PartsFit (ends ss) = Unit {0}
+PartsFit (bytes w r) = PartsFit r
+PartsFit (constant i r) = SFits w32 i × PartsFit r
+PartsFit (nested p r) = PartsFit p × PartsFit r
 
--- "then-parts, rests of tags 8 and 9 and handler bodies nest at most 16 levels inside a function's body": an expression in a part at
--- this level.
+-- "then-parts, rests of tags 8 and 9 and handler bodies nest at most 16 levels inside a function's body": parts at this level.
+abbrev pub PartsNest : ℕ → Parts → Type 0
+PartsNest level (ends ss) = Unit {0}
+PartsNest level (bytes w r) = PartsNest level r
+PartsNest level (constant i r) = PartsNest level r
+PartsNest level (nested p r) = (level < 16) × PartsNest (level + 1) p × PartsNest level r
+
+abbrev pub ConstantsFit : Expr → Type 0
+ConstantsFit e = PartsFit (partsOf e)
+
 abbrev pub Nests : ℕ → Expr → Type 0
-Nests level (letConstant x i e) = Nests level e
-Nests level (letSlot x y e) = Nests level e
-Nests level (letDifference x y z e) = Nests level e
-Nests level (jump g k h ss) = Unit {0}
-Nests level (resume k y) = Unit {0}
-Nests level (handle h) = Unit {0}
-Nests level (ifAtMost y z e₁ e₂) = (level < 16) × Nests (level + 1) e₁ × Nests level e₂
-Nests level (letContinuation x p e k) = (level < 16) × Nests (level + 1) e × Nests level k
-Nests level (letContinuationWithHandler x p t e h k) = (level < 16) × Nests (level + 1) e × Nests (level + 1) h × Nests level k
+Nests level e = PartsNest level (partsOf e)
 
 pub record TargetInRange (D : Target) : Type 0 where
   pub params : D .params ≤ 32
@@ -73,5 +84,5 @@ pub record TargetInRange (D : Target) : Type 0 where
 -- The ranges and levels of code.
 pub record InRange (Q : Code) : Type 0 where
   pub some : 1 ≤ length Q
-  pub most : length Q ≤ 2048
+  pub most : length Q ≤ maxFunctions
   pub targets : All TargetInRange Q

@@ -1,8 +1,7 @@
 -- Code that stands in a file is written there, and code that is written stands there.
 use Prim.Native.Nat.{ℕ, suc, _+_, _≤_}
-use mathlib.Core.Path.{_≡_, refl, sym, ap, _∙_, subst}
+use mathlib.Core.Path.{_≡_, sym, ap, _∙_, subst}
 use mathlib.Core.List.{List, [], _∷_, _++_}
-use mathlib.Core.Option.{some}
 use native.Mathlib.Omega.{arith}
 use lib.ListN.{length, getD, take, drop, length-drop, take-append-drop}
 use lib.Seq.{drop-drop, length-take-le}
@@ -21,37 +20,23 @@ use Rattle.target_tags.specs.ViewLaws.{View, isConstant, isCopy, isDifference, 
 use Rattle.target_layout.specs.Layout.{slotsAt}
 use Rattle.target_file.specs.Writing.{size, exprBytes, targetBytes, ConstantsFit}
 use Rattle.target_file.specs.LoadedCode.{ExprAt}
-use Rattle.target_layout.specs.PartLaws.{impossible}
-use Rattle.target_layout.specs.EndLaws.{nextOf}
 use Rattle.target_file.specs.StandsLaws.{stands-inside}
 use Rattle.target_file.specs.CodeLaws.{codeSize, CodeAt}
 
 -- ── What stands is written ──────────────────────────────────────────────────────────────────────
 
--- The bytes of a node's own fields.
-abbrev fieldBytes : List ℕ → ℕ → Tag → List ℕ
-fieldBytes s at (Constant x i next) = 1 ∷ x ∷ valueBytes i
-fieldBytes s at (Copy x y next) = 2 ∷ x ∷ y ∷ []
-fieldBytes s at (Difference x y z next) = 3 ∷ x ∷ y ∷ z ∷ []
-fieldBytes s at (Jump g k h n next) = 4 ∷ (pairBytes g ++ (k ∷ h ∷ n ∷ slotsAt s (at + 6) n))
-fieldBytes s at (Resume k y next) = 5 ∷ k ∷ y ∷ []
-fieldBytes s at (Handle h next) = 6 ∷ h ∷ []
-fieldBytes s at (Branch y z n next) = 7 ∷ y ∷ z ∷ pairBytes n
-fieldBytes s at (Continuation x p n next) = 8 ∷ x ∷ p ∷ pairBytes n
-fieldBytes s at (ContinuationWithHandler x p t n next) = 9 ∷ x ∷ p ∷ t ∷ pairBytes n
-fieldBytes s at (Refused r) = []
-
-abbrev ValueFits : Tag → Type 0
-ValueFits (Constant x i next) = SFits w32 i
-ValueFits (Copy x y next) = Unit {0}
-ValueFits (Difference x y z next) = Unit {0}
-ValueFits (Jump g k h n next) = Unit {0}
-ValueFits (Resume k y next) = Unit {0}
-ValueFits (Handle h next) = Unit {0}
-ValueFits (Branch y z n next) = Unit {0}
-ValueFits (Continuation x p n next) = Unit {0}
-ValueFits (ContinuationWithHandler x p t n next) = Unit {0}
-ValueFits (Refused r) = Unit {0}
+-- The bytes of a node's own fields stand there, and a constant is in range.
+abbrev NodeBytes : List ℕ → ℕ → Tag → Type 0
+NodeBytes s at (Constant x i next) = BytesAt s at next (1 ∷ x ∷ valueBytes i) × SFits w32 i
+NodeBytes s at (Copy x y next) = BytesAt s at next (2 ∷ x ∷ y ∷ [])
+NodeBytes s at (Difference x y z next) = BytesAt s at next (3 ∷ x ∷ y ∷ z ∷ [])
+NodeBytes s at (Jump g k h n next) = BytesAt s at next (4 ∷ (pairBytes g ++ (k ∷ h ∷ n ∷ slotsAt s (at + 6) n)))
+NodeBytes s at (Resume k y next) = BytesAt s at next (5 ∷ k ∷ y ∷ [])
+NodeBytes s at (Handle h next) = BytesAt s at next (6 ∷ h ∷ [])
+NodeBytes s at (Branch y z n next) = BytesAt s at next (7 ∷ y ∷ z ∷ pairBytes n)
+NodeBytes s at (Continuation x p n next) = BytesAt s at next (8 ∷ x ∷ p ∷ pairBytes n)
+NodeBytes s at (ContinuationWithHandler x p t n next) = BytesAt s at next (9 ∷ x ∷ p ∷ t ∷ pairBytes n)
+NodeBytes s at (Refused r) = Unit {0}
 
 module _ (s : List ℕ) (bytes : Bytes s) where
   -- The tag and its operands.
@@ -86,45 +71,24 @@ module _ (s : List ℕ) (bytes : Bytes s) where
       let p : at + 1 + 1 ≡ at + 2 = omega arith in
       subst (BytesAt s at (at + 2)) (pair-is at) (subst (λ (j : ℕ). BytesAt s at j (getD s at 0 ∷ getD s (at + 1) 0 ∷ [])) p (bytes-at-join s (bytes-at-byte s at (omega arith)) (bytes-at-byte s (at + 1) (omega arith))))
 
-  node-bytes-at : (at : ℕ) {t : Tag} (next : ℕ) → View s at t → nextOf t ≡ some next → BytesAt s at next (fieldBytes s at t) × ValueFits t
-  node-bytes-at at next (isConstant e h) w =
-      let q : at + 6 ≡ next = cc in (
-        subst (λ (j : ℕ). BytesAt s at j (1 ∷ getD s (at + 1) 0 ∷ valueBytes (valueAt s (at + 2)))) q
-            (subst (λ (l : List ℕ). BytesAt s at (at + 6) (1 ∷ getD s (at + 1) 0 ∷ l)) (value-behind at) (operands at 1 5 e h)),
-        value-fits s bytes (at + 2),
-      )
-  node-bytes-at at next (isCopy e h) w = let q : at + 3 ≡ next = cc in (subst (λ (j : ℕ). BytesAt s at j (2 ∷ span s at 1 2)) q (operands at 2 2 e h), tt)
-  node-bytes-at at next (isDifference e h) w = let q : at + 4 ≡ next = cc in (subst (λ (j : ℕ). BytesAt s at j (3 ∷ span s at 1 3)) q (operands at 3 3 e h), tt)
-  node-bytes-at at next (isJump e h) w =
-      let n = getD s (at + 5) 0 in
-      let q : at + 6 + n ≡ next = cc in
-      let o : BytesAt s at (at + 6) (4 ∷ (pairBytes (pairAt s (at + 1)) ++ (getD s (at + 3) 0 ∷ getD s (at + 4) 0 ∷ n ∷ []))) =
-      subst (λ (l : List ℕ). BytesAt s at (at + 6) (4 ∷ (l ++ (getD s (at + 3) 0 ∷ getD s (at + 4) 0 ∷ n ∷ [])))) (pair-behind at 1) (operands at 4 5 e (omega arith)) in
-      (subst (λ (j : ℕ). BytesAt s at j (4 ∷ (pairBytes (pairAt s (at + 1)) ++ (getD s (at + 3) 0 ∷ getD s (at + 4) 0 ∷ n ∷ slotsAt s (at + 6) n)))) q (bytes-at-join s o (bytes-at-slots (at + 6) n h)), tt)
-  node-bytes-at at next (isResume e h) w = let q : at + 3 ≡ next = cc in (subst (λ (j : ℕ). BytesAt s at j (5 ∷ span s at 1 2)) q (operands at 5 2 e h), tt)
-  node-bytes-at at next (isHandle e h) w = let q : at + 2 ≡ next = cc in (subst (λ (j : ℕ). BytesAt s at j (6 ∷ span s at 1 1)) q (operands at 6 1 e h), tt)
-  node-bytes-at at next (isBranch e h) w =
-      let q : at + 5 ≡ next = cc in (
-        subst (λ (j : ℕ). BytesAt s at j (7 ∷ getD s (at + 1) 0 ∷ getD s (at + 2) 0 ∷ pairBytes (pairAt s (at + 3)))) q
-            (subst (λ (l : List ℕ). BytesAt s at (at + 5) (7 ∷ getD s (at + 1) 0 ∷ getD s (at + 2) 0 ∷ l)) (pair-behind at 3) (operands at 7 4 e h)),
-        tt,
-      )
-  node-bytes-at at next (isContinuation e h) w =
-      let q : at + 5 ≡ next = cc in (
-        subst (λ (j : ℕ). BytesAt s at j (8 ∷ getD s (at + 1) 0 ∷ getD s (at + 2) 0 ∷ pairBytes (pairAt s (at + 3)))) q
-            (subst (λ (l : List ℕ). BytesAt s at (at + 5) (8 ∷ getD s (at + 1) 0 ∷ getD s (at + 2) 0 ∷ l)) (pair-behind at 3) (operands at 8 4 e h)),
-        tt,
-      )
-  node-bytes-at at next (isBoth e h) w =
-      let q : at + 6 ≡ next = cc in (
-        subst (λ (j : ℕ). BytesAt s at j (9 ∷ getD s (at + 1) 0 ∷ getD s (at + 2) 0 ∷ getD s (at + 3) 0 ∷ pairBytes (pairAt s (at + 4)))) q
-            (subst (λ (l : List ℕ). BytesAt s at (at + 6) (9 ∷ getD s (at + 1) 0 ∷ getD s (at + 2) 0 ∷ getD s (at + 3) 0 ∷ l)) (pair-behind at 4) (operands at 9 5 e h)),
-        tt,
-      )
-  node-bytes-at at next (isRefused r) w = impossible (cc)
+  node-bytes-at : (at : ℕ) {t : Tag} → View s at t → NodeBytes s at t
+  node-bytes-at at (isConstant e h) =
+      (subst (λ (l : List ℕ). BytesAt s at (at + 6) (1 ∷ getD s (at + 1) 0 ∷ l)) (value-behind at) (operands at 1 5 e h), value-fits s bytes (at + 2))
+  node-bytes-at at (isCopy e h) = operands at 2 2 e h
+  node-bytes-at at (isDifference e h) = operands at 3 3 e h
+  node-bytes-at at (isJump e h) =
+      let l = getD s (at + 3) 0 ∷ getD s (at + 4) 0 ∷ getD s (at + 5) 0 ∷ [] in
+      bytes-at-join s (subst (λ (p : List ℕ). BytesAt s at (at + 6) (4 ∷ (p ++ l))) (pair-behind at 1) (operands at 4 5 e (omega arith))) (bytes-at-slots (at + 6) (getD s (at + 5) 0) h)
+  node-bytes-at at (isResume e h) = operands at 5 2 e h
+  node-bytes-at at (isHandle e h) = operands at 6 1 e h
+  node-bytes-at at (isBranch e h) = subst (λ (l : List ℕ). BytesAt s at (at + 5) (7 ∷ getD s (at + 1) 0 ∷ getD s (at + 2) 0 ∷ l)) (pair-behind at 3) (operands at 7 4 e h)
+  node-bytes-at at (isContinuation e h) = subst (λ (l : List ℕ). BytesAt s at (at + 5) (8 ∷ getD s (at + 1) 0 ∷ getD s (at + 2) 0 ∷ l)) (pair-behind at 3) (operands at 8 4 e h)
+  node-bytes-at at (isBoth e h) =
+      subst (λ (l : List ℕ). BytesAt s at (at + 6) (9 ∷ getD s (at + 1) 0 ∷ getD s (at + 2) 0 ∷ getD s (at + 3) 0 ∷ l)) (pair-behind at 4) (operands at 9 5 e h)
+  node-bytes-at at (isRefused r) = tt
 
-  tag-bytes-at : (at : ℕ) (t : Tag) (next : ℕ) → tagAt s at ≡ t → nextOf t ≡ some next → BytesAt s at next (fieldBytes s at t) × ValueFits t
-  tag-bytes-at at t next is e = node-bytes-at at next (seen s at t (sym is)) e
+  tag-bytes-at : (at : ℕ) (t : Tag) → tagAt s at ≡ t → NodeBytes s at t
+  tag-bytes-at at t is = node-bytes-at at (seen s at t (sym is))
 
   onward : {at m n : ℕ} {w : List ℕ} → m ≡ n → BytesAt s at m w → BytesAt s at n w
   onward {at} {m} {n} {w} q r = subst (λ (j : ℕ). BytesAt s at j w) q r
@@ -132,41 +96,41 @@ module _ (s : List ℕ) (bytes : Bytes s) where
   -- An expression that stands at an offset is written there, with constants in range.
   pub expr-bytes-at : (at : ℕ) (e : Expr) → ExprAt s at e → BytesAt s at (at + size e) (exprBytes e) × ConstantsFit e
   expr-bytes-at at (letConstant x i e) h =
-      let a = tag-bytes-at at (Constant x i (at + 6)) (at + 6) (h .0) refl in
+      let a = tag-bytes-at at (Constant x i (at + 6)) (h .0) in
       let b = expr-bytes-at (at + 6) e (h .1) in
       (onward (omega arith) (bytes-at-join s (a .0) (b .0)), (a .1, b .1))
   expr-bytes-at at (letSlot x y e) h =
-      let a = tag-bytes-at at (Copy x y (at + 3)) (at + 3) (h .0) refl in
+      let a = tag-bytes-at at (Copy x y (at + 3)) (h .0) in
       let b = expr-bytes-at (at + 3) e (h .1) in
-      (onward (omega arith) (bytes-at-join s (a .0) (b .0)), b .1)
+      (onward (omega arith) (bytes-at-join s a (b .0)), b .1)
   expr-bytes-at at (letDifference x y z e) h =
-      let a = tag-bytes-at at (Difference x y z (at + 4)) (at + 4) (h .0) refl in
+      let a = tag-bytes-at at (Difference x y z (at + 4)) (h .0) in
       let b = expr-bytes-at (at + 4) e (h .1) in
-      (onward (omega arith) (bytes-at-join s (a .0) (b .0)), b .1)
+      (onward (omega arith) (bytes-at-join s a (b .0)), b .1)
   expr-bytes-at at (jump g k c ss) h =
-      let a = tag-bytes-at at (Jump g k c (length ss) (at + 6 + length ss)) (at + 6 + length ss) (h .0) refl in
-      (onward (omega arith) (subst (λ (l : List ℕ). BytesAt s at (at + 6 + length ss) (4 ∷ (pairBytes g ++ (k ∷ c ∷ length ss ∷ l)))) (h .1) (a .0)), tt)
-  expr-bytes-at at (resume k y) h = (tag-bytes-at at (Resume k y (at + 3)) (at + 3) h refl .0, tt)
-  expr-bytes-at at (handle c) h = (tag-bytes-at at (Handle c (at + 2)) (at + 2) h refl .0, tt)
+      let a = tag-bytes-at at (Jump g k c (length ss) (at + 6 + length ss)) (h .0) in
+      (onward (omega arith) (subst (λ (l : List ℕ). BytesAt s at (at + 6 + length ss) (4 ∷ (pairBytes g ++ (k ∷ c ∷ length ss ∷ l)))) (h .1) a), tt)
+  expr-bytes-at at (resume k y) h = (tag-bytes-at at (Resume k y (at + 3)) h, tt)
+  expr-bytes-at at (handle c) h = (tag-bytes-at at (Handle c (at + 2)) h, tt)
   expr-bytes-at at (ifAtMost y z e₁ e₂) h =
-      let a = tag-bytes-at at (Branch y z (size e₁) (at + 5)) (at + 5) (h .0) refl in
+      let a = tag-bytes-at at (Branch y z (size e₁) (at + 5)) (h .0) in
       let b = expr-bytes-at (at + 5) e₁ (h .1) in
       let c = expr-bytes-at (at + 5 + size e₁) e₂ (h .2) in
-      (onward (omega arith) (bytes-at-join s (a .0) (bytes-at-join s (b .0) (c .0))), (b .1, c .1))
+      (onward (omega arith) (bytes-at-join s a (bytes-at-join s (b .0) (c .0))), (b .1, c .1))
   expr-bytes-at at (letContinuation x p e k) h =
-      let a = tag-bytes-at at (Continuation x p (size e) (at + 5)) (at + 5) (h .0) refl in
+      let a = tag-bytes-at at (Continuation x p (size e) (at + 5)) (h .0) in
       let b = expr-bytes-at (at + 5) e (h .1) in
       let c = expr-bytes-at (at + 5 + size e) k (h .2) in
-      (onward (omega arith) (bytes-at-join s (a .0) (bytes-at-join s (b .0) (c .0))), (b .1, c .1))
+      (onward (omega arith) (bytes-at-join s a (bytes-at-join s (b .0) (c .0))), (b .1, c .1))
   expr-bytes-at at (letContinuationWithHandler x p t e c k) h =
       let o = at + 6 + size e in
       let i = stands-inside s (o + 2) c (h .3) in
-      let a = tag-bytes-at at (ContinuationWithHandler x p t (size e) (at + 6)) (at + 6) (h .0) refl in
+      let a = tag-bytes-at at (ContinuationWithHandler x p t (size e) (at + 6)) (h .0) in
       let b = expr-bytes-at (at + 6) e (h .2) in
       let l : BytesAt s o (o + 2) (pairBytes (size c)) = subst (λ (n : ℕ). BytesAt s o (o + 2) (pairBytes n)) (h .1) (bytes-at-pair o (omega arith)) in
       let d = expr-bytes-at (o + 2) c (h .3) in
       let f = expr-bytes-at (o + 2 + size c) k (h .4) in
-      (onward (omega arith) (bytes-at-join s (a .0) (bytes-at-join s (b .0) (bytes-at-join s l (bytes-at-join s (d .0) (f .0))))), (b .1, d .1, f .1))
+      (onward (omega arith) (bytes-at-join s a (bytes-at-join s (b .0) (bytes-at-join s l (bytes-at-join s (d .0) (f .0))))), (b .1, (d .1, f .1)))
 
   -- Functions that stand one after the other are written so.
   pub code-bytes-at : (at : ℕ) (Q : Code) → CodeAt s at Q → BytesAt s at (at + codeSize Q) (joined targetBytes Q)

@@ -1,3 +1,4 @@
 // Translated files (`SPC`): bytes and code, the checker, the table of function bodies.
 pub mod check;
-pub mod tables;
+pub mod table;
+mod walk;

@@ -7,8 +7,8 @@ use mathlib.Core.Option.{Option, none, some}
 use native.Mathlib.Omega.{arith}
 use borrow.Author.Tests.{le-leb, lt-leb, lt-ltb, le-ltb, eq-eqb, ne-eqb, eqb-true}
 use lib.Dec.{eqb}
-use lib.ListN.{length, getD}
-use Rattle.semantics.specs.Code.{Expr, letConstant, letSlot, letDifference, ifAtMost, letContinuation, letContinuationWithHandler}
+use lib.ListN.{length}
+use Rattle.semantics.specs.Code.{Expr}
 use Rattle.parsing.specs.declared.Refusal.{Refusal}
 use Rattle.parsing.specs.declared.Scan.{Scan}
 use Rattle.parsing.specs.declared.Scan.the-variants.{Past, Stopped}
@@ -19,16 +19,15 @@ use Rattle.parsing.specs.Parser.{refusal, Parsed, read, refuse, andThen, pastOf
 use Rattle.parsing.specs.Fields.{cut}
 use Rattle.parsing.specs.ParserLaws.{past-read}
 use Rattle.target_tags.specs.declared.tag.Tag.{Tag}
-use Rattle.target_tags.specs.declared.tag.Tag.the-variants.{Constant, Copy, Difference, Jump, Resume, Handle, Branch, Continuation, Refused}
-use Rattle.target_tags.specs.declared.tag.Tag.the-variants as tags
+use Rattle.target_tags.specs.declared.tag.Tag.the-variants.{Branch, Continuation, ContinuationWithHandler}
 use Rattle.target_tags.specs.Tag.{pairAt, tagAt}
 use Rattle.target_names.specs.Names.{judged, bound}
-use Rattle.target_tags.specs.ViewLaws.{View, isConstant, isCopy, isDifference, isJump, isResume, isHandle, isBranch, isContinuation, isBoth, isRefused, seen}
+use Rattle.target_tags.specs.ViewLaws.{seen}
 use Rattle.target_layout.specs.declared.layout.After.{After}
-use Rattle.target_layout.specs.declared.layout.After.the-variants.{Onward, Ended, Halted}
-use Rattle.target_layout.specs.Layout.{pair, measured, sized, nested, before, from, after, node, expression}
-use Rattle.target_layout.specs.Ends.{measuredEnd, onwardOf, thenOnward, afterOf, inner, partEnd, handlerEnd, continuationWithHandlerEnd, partsEnd, nodeEnd}
-use Rattle.target_layout.specs.LayoutLaws.{expression-law}
+use Rattle.target_layout.specs.declared.layout.After.the-variants.{Onward, Bound, Ended, Halted}
+use Rattle.target_layout.specs.Layout.{pair, measured, sized, nested, before, Behind, ends, goesOn, goesOnBound, part, sizedPart, Node, found, missing, nodeOf, readBehind, readNode, after, expression}
+use Rattle.target_layout.specs.Ends.{measuredEnd, onwardOf, boundOf, thenOnward, thenAfter, afterOf, behindEnd, afterNode, inner, partEnd, handlerEnd, continuationWithHandlerEnd, partsEnd, nodeEnd}
+use Rattle.target_layout.specs.LayoutLaws.{Fields, NodeIn, node-in, expression-law}
 use Rattle.target_layout.specs.PartLaws.{impossible, measured-read, nested-read, sized-read, expression-inside}
 
 -- ── The ends of parts ───────────────────────────────────────────────────────────────────────────
@@ -99,17 +98,9 @@ module _ (names : Bool) (ps s : List ℕ) (level : ℕ) (ks : List ℕ) where
     unfolding handlerEnd pair partEnd
     handler-in n h e = rw (le-leb (at + 2) (length s) h, e)
 
-    pub handler-past : (next : ℕ) → handlerEnd names ps s level ks at ≡ Past next → (at < next) × (next ≤ length s)
-    unfolding handlerEnd
-    handler-past next e =
-        let r = past-read (sized (λ s′ m. nested s (inner names ps s) level ks m) s at) e in
-        let z = sized-read (λ s′ m. nested s (inner names ps s) level ks m) s at (r .is) in
-        let d = nested-read s (inner names ps s) level ks (at + 2) (z .reads) in
-        (omega (arith, z .fills), expression-inside names ps s (level + 1) ks (at + 2) (d .reads))
-
   -- The nested parts of tag 9.
   module _ (at x p t n next : ℕ) (ks′ : List ℕ) (rest : ks′ ≡ bound (bound ks x 2) t 3) where
-    pub tag-9-parts-on : (m : ℕ) {y : Scan} {a : After} → partEnd names ps s level ks′ (at + 4) next n ≡ Past m → a ≡ onwardOf p y
+    pub tag-9-parts-on : (m : ℕ) {y : Scan} {a : After} → partEnd names ps s level ks′ (at + 4) next n ≡ Past m → a ≡ boundOf p y
         → y ≡ handlerEnd names ps s level ks m → a ≡ continuationWithHandlerEnd names ps s level ks at x p t n next
     unfolding continuationWithHandlerEnd
     tag-9-parts-on m e f g = rw (← rest, e, f, g)
@@ -130,174 +121,145 @@ module _ (names : Bool) (ps s : List ℕ) (level : ℕ) (ks : List ℕ) where
 
 -- ── What follows a node ─────────────────────────────────────────────────────────────────────────
 
-abbrev finish : After → (ℕ → ℕ → Scan) → Scan
-finish (Onward m x) k = k m x
-finish (Ended m) k = Past m
-finish (Halted r) k = Stopped r
+-- Where an expression goes on behind a node.
+abbrev pub onwardAt : After → Option ℕ
+onwardAt (Onward m) = some m
+onwardAt (Bound m x) = some m
+onwardAt (Ended m) = none
+onwardAt (Halted r) = none
+
+-- The end of the expression, where `k` gives it for what follows, by its offset and the kinds of its slots.
+abbrev finish : List ℕ → After → (ℕ → List ℕ → Scan) → Scan
+finish ks (Onward m) k = k m ks
+finish ks (Bound m x) k = k m (bound ks x 1)
+finish ks (Ended m) k = Past m
+finish ks (Halted r) k = Stopped r
 
 past-before : (t : Expr → Expr) (x : Parsed Expr) → pastOf (before t x) ≡ pastOf x
 past-before t (read e m) = refl
 past-before t (refuse r) = refl
 
-past-then : (p : ℕ) (x : Parsed Expr) (K : Expr → ℕ → Parsed Expr) (k : ℕ → ℕ → Scan) → ((e : Expr) (m : ℕ) → pastOf (K e m) ≡ k m p)
-    → pastOf (andThen x K) ≡ finish (onwardOf p (pastOf x)) k
-past-then p (read e m) K k f = f e m
-past-then p (refuse r) K k f = refl
+past-then : (ks : List ℕ) (x : Parsed Expr) (K : Expr → ℕ → Parsed Expr) (a : Expr → ℕ → After) (k : ℕ → List ℕ → Scan)
+    → ((e : Expr) (m : ℕ) → pastOf (K e m) ≡ finish ks (a e m) k) → pastOf (andThen x K) ≡ finish ks (thenAfter x a) k
+past-then ks (read e m) K a k f = f e m
+past-then ks (refuse r) K a k f = refl
 
-past-tag-9 : (p : ℕ) (x : Parsed Expr) (y : ℕ → Parsed Expr) (K : Expr → Expr → ℕ → Parsed Expr) (k : ℕ → ℕ → Scan)
-    → ((e h : Expr) (m : ℕ) → pastOf (K e h m) ≡ k m p)
-    → pastOf (andThen x (λ e m. andThen (y m) (K e))) ≡ finish (thenOnward (pastOf x) (λ m. onwardOf p (pastOf (y m)))) k
-past-tag-9 p (read e m) y K k f = past-then p (y m) (K e) k (f e)
-past-tag-9 p (refuse r) y K k f = refl
+past-after : {A : Type 0} (ks : List ℕ) (c : Checked) (x : Parsed A) (a : After) (k : ℕ → List ℕ → Scan)
+    → pastOf x ≡ finish ks a k → pastOf (after c x) ≡ finish ks (afterOf c a) k
+past-after ks Accepted x a k e = e
+past-after ks (checked.Refused r) x a k e = refl
 
-past-after : {A : Type 0} (c : Checked) (x : Parsed A) (a : After) (k : ℕ → ℕ → Scan) → pastOf x ≡ finish a k → pastOf (after c x) ≡ finish (afterOf c a) k
-past-after Accepted x a k e = e
-past-after (checked.Refused r) x a k e = refl
+-- What follows begins behind the parts, inside the file.
+then-moves : (s : List ℕ) (x : Parsed Expr) (k : Expr → ℕ → After) (m next : ℕ) → ((e : Expr) (i : ℕ) → x ≡ read e i → (m ≤ i) × (i ≤ length s))
+    → ((e : Expr) (i : ℕ) → i ≤ length s → onwardAt (k e i) ≡ some next → (i ≤ next) × (next ≤ length s))
+    → onwardAt (thenAfter x k) ≡ some next → (m ≤ next) × (next ≤ length s)
+then-moves s (read e i) k m next f g w =
+    let a = f e i refl in
+    let b = g e i (a .1) w in
+    (omega arith, b .1)
+then-moves s (refuse r) k m next f g w = impossible (cc)
+
+module _ (names : Bool) (ps s : List ℕ) (level : ℕ) where
+  behind-moves : (next m : ℕ) → m ≤ length s → (b : Behind) → onwardAt (behindEnd names ps s level m b) ≡ some next → (m ≤ next) × (next ≤ length s)
+  behind-moves next m h (ends e) w = impossible (cc)
+  behind-moves next m h (goesOn f) w = let q : m ≡ next = cc in (omega arith, omega arith)
+  behind-moves next m h (goesOnBound x f) w = let q : m ≡ next = cc in (omega arith, omega arith)
+  behind-moves next m h (part place n kinds f) w =
+      then-moves s (measured place m n (nested s (inner names ps s) level kinds m)) (λ e i. behindEnd names ps s level i (f e)) m next
+      (λ e i r.
+      let a = measured-read place m n (nested s (inner names ps s) level kinds m) r in
+      let d = nested-read s (inner names ps s) level kinds m (a .reads) in
+      (omega (arith, a .fills), expression-inside names ps s (level + 1) kinds m (d .reads)))
+      (λ e i l. behind-moves next i l (f e)) w
+  behind-moves next m h (sizedPart kinds f) w =
+      then-moves s (sized (λ s′ i. nested s (inner names ps s) level kinds i) s m) (λ e i. behindEnd names ps s level i (f e)) m next
+      (λ e i r.
+      let a = sized-read (λ s′ j. nested s (inner names ps s) level kinds j) s m r in
+      let d = nested-read s (inner names ps s) level kinds (m + 2) (a .reads) in
+      (omega (arith, a .fills), expression-inside names ps s (level + 1) kinds (m + 2) (d .reads)))
+      (λ e i l. behind-moves next i l (f e)) w
+
+  node-moves : (at next : ℕ) (N : Node) → NodeIn s at N → onwardAt (afterNode names ps s level N) ≡ some next → Fields s at next
+  node-moves at next (found m b) i w =
+      let a = behind-moves next m (i .inside) b w in
+      let f = i .forward in
+      record { here = i .here; forward = omega arith; inside = a .1 }
+  node-moves at next (missing r) i w = impossible (cc)
 
 module _ (names : Bool) (ps s : List ℕ) (level : ℕ) (ks : List ℕ) (at : ℕ) where
-  abbrev next-at : ℕ → ℕ → Scan
-  next-at m x = pastOf (expression names ps level (bound ks x 1) s m)
+  abbrev next-at : ℕ → List ℕ → Scan
+  next-at m l = pastOf (expression names ps level l s m)
 
-  from-past : (t : Tag) → pastOf (from s (inner names ps s) level ks at t) ≡ finish (partsEnd names ps s level ks at t) next-at
-  unfolding partsEnd partEnd continuationWithHandlerEnd handlerEnd bound
-  from-past (Constant x i next) = past-before (letConstant x i) (inner names ps s level (bound ks x 1) next)
-  from-past (Copy x y next) = past-before (letSlot x y) (inner names ps s level (bound ks x 1) next)
-  from-past (Difference x y z next) = past-before (letDifference x y z) (inner names ps s level (bound ks x 1) next)
-  from-past (Jump g k h n next) = refl
-  from-past (Resume k y next) = refl
-  from-past (Handle h next) = refl
-  from-past (Branch y z n next) =
-      past-then 36 (measured (at + 3) next n (nested s (inner names ps s) level ks next)) (λ e m. before (ifAtMost y z e) (inner names ps s level ks m)) next-at
-      (λ e m. past-before (ifAtMost y z e) (inner names ps s level ks m))
-  from-past (Continuation x p n next) =
-      past-then p (measured (at + 3) next n (nested s (inner names ps s) level (bound ks x 2) next)) (λ e m. before (letContinuation x p e) (inner names ps s level (bound ks p 1) m)) next-at
-      (λ e m. past-before (letContinuation x p e) (inner names ps s level (bound ks p 1) m))
-  from-past (tags.ContinuationWithHandler x p t n next) =
-      past-tag-9 p (measured (at + 4) next n (nested s (inner names ps s) level (bound (bound ks x 2) t 3) next)) (λ m. sized (λ s′ m₁. nested s (inner names ps s) level ks m₁) s m)
-      (λ e h m. before (letContinuationWithHandler x p t e h) (inner names ps s level (bound ks p 1) m)) next-at
-      (λ e h m. past-before (letContinuationWithHandler x p t e h) (inner names ps s level (bound ks p 1) m))
-  from-past (Refused r) = refl
+  behind-past : (m : ℕ) (b : Behind) → pastOf (readBehind s (inner names ps s) level ks m b) ≡ finish ks (behindEnd names ps s level m b) next-at
+  behind-past m (ends e) = refl
+  behind-past m (goesOn f) = past-before f (inner names ps s level ks m)
+  behind-past m (goesOnBound x f) = past-before f (inner names ps s level (bound ks x 1) m)
+  behind-past m (part place n kinds f) =
+      past-then ks (measured place m n (nested s (inner names ps s) level kinds m)) (λ e i. readBehind s (inner names ps s) level ks i (f e))
+      (λ e i. behindEnd names ps s level i (f e)) next-at (λ e i. behind-past i (f e))
+  behind-past m (sizedPart kinds f) =
+      past-then ks (sized (λ s′ i. nested s (inner names ps s) level kinds i) s m) (λ e i. readBehind s (inner names ps s) level ks i (f e))
+      (λ e i. behindEnd names ps s level i (f e)) next-at (λ e i. behind-past i (f e))
+
+  node-past : (N : Node) → pastOf (readNode s (inner names ps s) level ks N) ≡ finish ks (afterNode names ps s level N) next-at
+  node-past (found m b) = behind-past m b
+  node-past (missing r) = refl
 
   module _ {t : Tag} {a : After} (is : t ≡ tagAt s at) (ends : a ≡ nodeEnd names ps s level ks at t) where
-    expression-past : pastOf (expression names ps level ks s at) ≡ finish a next-at
-    unfolding nodeEnd
-    expression-past =
+    expression-past : {b : After} → a ≡ b → pastOf (expression names ps level ks s at) ≡ finish ks b next-at
+    unfolding nodeEnd partsEnd
+    expression-past e =
         ap pastOf (expression-law names ps s level ks at)
-        ∙ ap (λ u. pastOf (after (judged names ps ks s at u) (from s (inner names ps s) level ks at u))) (sym is)
-        ∙ past-after (judged names ps ks s at t) (from s (inner names ps s) level ks at t) (partsEnd names ps s level ks at t) next-at (from-past t)
-        ∙ ap (λ b. finish b next-at) (sym ends)
+        ∙ ap (λ u. pastOf (after (judged names ps ks s at u) (readNode s (inner names ps s) level ks (nodeOf s ks at u)))) (sym is)
+        ∙ past-after ks (judged names ps ks s at t) (readNode s (inner names ps s) level ks (nodeOf s ks at t)) (partsEnd names ps s level ks at t) next-at (node-past (nodeOf s ks at t))
+        ∙ ap (λ b. finish ks b next-at) (sym ends ∙ e)
 
-    pub expression-onward : (next x : ℕ) (ks′ : List ℕ) → a ≡ Onward next x → ks′ ≡ bound ks x 1
+    pub expression-onward : (next : ℕ) → a ≡ Onward next → pastOf (expression names ps level ks s next) ≡ pastOf (expression names ps level ks s at)
+    expression-onward next e = sym (expression-past e)
+
+    pub expression-bound : (next x : ℕ) (ks′ : List ℕ) → a ≡ Bound next x → ks′ ≡ bound ks x 1
         → pastOf (expression names ps level ks′ s next) ≡ pastOf (expression names ps level ks s at)
-    expression-onward next x ks′ e f =
-        ap (λ l. pastOf (expression names ps level l s next)) f ∙ sym (expression-past ∙ ap (λ b. finish b next-at) e)
+    expression-bound next x ks′ e f = ap (λ l. pastOf (expression names ps level l s next)) f ∙ sym (expression-past e)
 
     pub expression-ended : (next : ℕ) → a ≡ Ended next → Past next ≡ pastOf (expression names ps level ks s at)
-    expression-ended next e = sym (expression-past ∙ ap (λ b. finish b next-at) e)
+    expression-ended next e = sym (expression-past e)
 
     pub expression-halted : (r : Refusal) → a ≡ Halted r → Stopped r ≡ pastOf (expression names ps level ks s at)
-    expression-halted r e = sym (expression-past ∙ ap (λ b. finish b next-at) e)
+    expression-halted r e = sym (expression-past e)
 
     -- What goes on behind a node goes on behind its own fields, inside the file.
-    pub record Moves (next : ℕ) : Type 0 where
-      pub here : at < length s
-      pub forward : at < next
-      pub inside : next ≤ length s
-
-    onward-part : (p : ℕ) (x : Scan) (next b : ℕ) → onwardOf p x ≡ Onward next b → x ≡ Past next
-    onward-part p (Past m) next b e = ap Past (cc)
-    onward-part p (Stopped r) next b e = impossible (cc)
-
-    parts-move : {u : Tag} → View s at u → (next b : ℕ) → partsEnd names ps s level ks at u ≡ Onward next b → Moves next
-    unfolding partsEnd continuationWithHandlerEnd
-    parts-move (isConstant f h) next b e = let q : at + 6 ≡ next = cc in record { here = omega arith; forward = omega arith; inside = omega arith }
-    parts-move (isCopy f h) next b e = let q : at + 3 ≡ next = cc in record { here = omega arith; forward = omega arith; inside = omega arith }
-    parts-move (isDifference f h) next b e = let q : at + 4 ≡ next = cc in record { here = omega arith; forward = omega arith; inside = omega arith }
-    parts-move (isJump f h) next b e = impossible (cc)
-    parts-move (isResume f h) next b e = impossible (cc)
-    parts-move (isHandle f h) next b e = impossible (cc)
-    parts-move (isBranch f h) next b e =
-        let w = part-past names ps s level ks (at + 3) (at + 5) (pairAt s (at + 3)) next (onward-part _ _ next b e) in
-        record { here = omega arith; forward = omega (arith, w .fills); inside = w .inside }
-    parts-move (isContinuation f h) next b e =
-        let w = part-past names ps s level (bound ks (getD s (at + 1) 0) 2) (at + 3) (at + 5) (pairAt s (at + 3)) next (onward-part _ _ next b e) in
-        record { here = omega arith; forward = omega (arith, w .fills); inside = w .inside }
-    parts-move (isBoth f h) next b e = go (partEnd names ps s level (bound (bound ks (getD s (at + 1) 0) 2) (getD s (at + 3) 0) 3) (at + 4) (at + 6) (pairAt s (at + 4))) refl e
+    pub onward-moves : {b : After} (next : ℕ) → a ≡ b → onwardAt b ≡ some next → Fields s at next
+    unfolding nodeEnd partsEnd
+    onward-moves next e f = go (judged names ps ks s at t) (ap onwardAt (sym ends ∙ e) ∙ f)
       where
-        go : (x : Scan) → partEnd names ps s level (bound (bound ks (getD s (at + 1) 0) 2) (getD s (at + 3) 0) 3) (at + 4) (at + 6) (pairAt s (at + 4)) ≡ x
-            → thenOnward x (λ m. onwardOf (getD s (at + 2) 0) (handlerEnd names ps s level ks m)) ≡ Onward next b → Moves next
-        go (Past m) w v =
-            let p = part-past names ps s level (bound (bound ks (getD s (at + 1) 0) 2) (getD s (at + 3) 0) 3) (at + 4) (at + 6) (pairAt s (at + 4)) m w in
-            let q = handler-past names ps s level ks m next (onward-part _ _ next b v) in
-            record { here = omega arith; forward = omega (arith, p .fills, q .0); inside = q .1 }
-        go (Stopped r) w v = impossible (cc)
-    parts-move (isRefused r) next b e = impossible (cc)
-
-    pub onward-moves : (next b : ℕ) → a ≡ Onward next b → Moves next
-    unfolding nodeEnd
-    onward-moves next b e = go (judged names ps ks s at t) (sym ends ∙ e)
-      where
-        go : (c : Checked) → afterOf c (partsEnd names ps s level ks at t) ≡ Onward next b → Moves next
-        go Accepted w = parts-move (seen s at t is) next b w
+        go : (c : Checked) → onwardAt (afterOf c (afterNode names ps s level (nodeOf s ks at t))) ≡ some next → Fields s at next
+        go Accepted w = node-moves names ps s level at next (nodeOf s ks at t) (node-in s at ks (seen s at t is)) w
         go (checked.Refused r) w = impossible (cc)
 
 -- ── The parts of a node, by its tag ─────────────────────────────────────────────────────────────
 
--- The offset past a node's own fields.
-abbrev pub nextOf : Tag → Option ℕ
-nextOf (Constant x i next) = some next
-nextOf (Copy x y next) = some next
-nextOf (Difference x y z next) = some next
-nextOf (Jump g k h n next) = some next
-nextOf (Resume k y next) = some next
-nextOf (Handle h next) = some next
-nextOf (Branch y z n next) = some next
-nextOf (Continuation x p n next) = some next
-nextOf (tags.ContinuationWithHandler x p t n next) = some next
-nextOf (Refused r) = none
-
-module _ (s : List ℕ) (at : ℕ) where
-  -- The fields of a node are inside the file.
-  pub record Fields (next : ℕ) : Type 0 where
-    pub here : at < length s
-    pub forward : at < next
-    pub inside : next ≤ length s
-
-  fields : {u : Tag} (next : ℕ) → View s at u → nextOf u ≡ some next → Fields next
-  fields next (isConstant f h) e = let q : at + 6 ≡ next = cc in record { here = omega arith; forward = omega arith; inside = omega arith }
-  fields next (isCopy f h) e = let q : at + 3 ≡ next = cc in record { here = omega arith; forward = omega arith; inside = omega arith }
-  fields next (isDifference f h) e = let q : at + 4 ≡ next = cc in record { here = omega arith; forward = omega arith; inside = omega arith }
-  fields next (isJump f h) e = let q : at + 6 + getD s (at + 5) 0 ≡ next = cc in record { here = omega arith; forward = omega arith; inside = omega arith }
-  fields next (isResume f h) e = let q : at + 3 ≡ next = cc in record { here = omega arith; forward = omega arith; inside = omega arith }
-  fields next (isHandle f h) e = let q : at + 2 ≡ next = cc in record { here = omega arith; forward = omega arith; inside = omega arith }
-  fields next (isBranch f h) e = let q : at + 5 ≡ next = cc in record { here = omega arith; forward = omega arith; inside = omega arith }
-  fields next (isContinuation f h) e = let q : at + 5 ≡ next = cc in record { here = omega arith; forward = omega arith; inside = omega arith }
-  fields next (isBoth f h) e = let q : at + 6 ≡ next = cc in record { here = omega arith; forward = omega arith; inside = omega arith }
-  fields next (isRefused r) e = impossible (cc)
-
-  pub node-fields : (t : Tag) (next : ℕ) → tagAt s at ≡ t → nextOf t ≡ some next → Fields next
-  node-fields t next is e = fields next (seen s at t (sym is)) e
-
-  pub branch-fields : {t : Tag} {y z n next : ℕ} → t ≡ tagAt s at → t ≡ Branch y z n next → Fields next
-  branch-fields {t} {y} {z} {n} {next} is e = fields next (seen s at t is) (ap nextOf e)
-
-  pub continuation-fields : {t : Tag} {x p n next : ℕ} → t ≡ tagAt s at → t ≡ Continuation x p n next → Fields next
-  continuation-fields {t} {x} {p} {n} {next} is e = fields next (seen s at t is) (ap nextOf e)
-
-  pub tag-9-fields : {t : Tag} {x p h n next : ℕ} → t ≡ tagAt s at → t ≡ tags.ContinuationWithHandler x p h n next → Fields next
-  tag-9-fields {t} {x} {p} {h} {n} {next} is e = fields next (seen s at t is) (ap nextOf e)
+then-past : (x : Parsed Expr) (a : ℕ → After) (k : Expr → ℕ → After) → ((e : Expr) (m : ℕ) → a m ≡ k e m) → thenOnward (pastOf x) a ≡ thenAfter x k
+then-past (read e m) a k f = f e m
+then-past (refuse r) a k f = refl
 
 module _ (names : Bool) (ps s : List ℕ) (level : ℕ) (ks : List ℕ) (at : ℕ) {t : Tag} {a : After} where
-  pub branch-on : {y z n next : ℕ} {x : Scan} → t ≡ Branch y z n next → a ≡ onwardOf 36 x → x ≡ partEnd names ps s level ks (at + 3) next n
+  pub branch-on : {y z n next : ℕ} {x : Scan} → t ≡ Branch y z n next → a ≡ onwardOf x → x ≡ partEnd names ps s level ks (at + 3) next n
       → a ≡ partsEnd names ps s level ks at t
-  unfolding partsEnd
-  branch-on e f g = rw (e, f, g)
+  unfolding partsEnd partEnd
+  branch-on {y} {z} {n} {next} e f g =
+      rw (e, f, g) (then-past (measured (at + 3) next n (nested s (inner names ps s) level ks next)) (λ m. Onward m) (λ e₁ m. Onward m) (λ e₁ m. refl))
 
-  pub continuation-on : {x p n next : ℕ} {y : Scan} (ks′ : List ℕ) → t ≡ Continuation x p n next → a ≡ onwardOf p y
+  pub continuation-on : {x p n next : ℕ} {y : Scan} (ks′ : List ℕ) → t ≡ Continuation x p n next → a ≡ boundOf p y
       → y ≡ partEnd names ps s level ks′ (at + 3) next n → ks′ ≡ bound ks x 2 → a ≡ partsEnd names ps s level ks at t
-  unfolding partsEnd
-  continuation-on ks′ e f g h = rw (e, f, g, h)
+  unfolding partsEnd partEnd
+  continuation-on {x} {p} {n} {next} ks′ e f g h =
+      rw (e, f, g, h) (then-past (measured (at + 3) next n (nested s (inner names ps s) level (bound ks x 2) next)) (λ m. Bound m p) (λ e₁ m. Bound m p) (λ e₁ m. refl))
 
-  pub tag-9-on : {x p h n next : ℕ} → t ≡ tags.ContinuationWithHandler x p h n next → a ≡ continuationWithHandlerEnd names ps s level ks at x p h n next → a ≡ partsEnd names ps s level ks at t
-  unfolding partsEnd
-  tag-9-on e f = rw (e, f)
+  pub tag-9-on : {x p h n next : ℕ} → t ≡ ContinuationWithHandler x p h n next → a ≡ continuationWithHandlerEnd names ps s level ks at x p h n next → a ≡ partsEnd names ps s level ks at t
+  unfolding partsEnd partEnd handlerEnd continuationWithHandlerEnd
+  tag-9-on {x} {p} {h} {n} {next} e f =
+      rw (e, f)
+      (then-past (measured (at + 4) next n (nested s (inner names ps s) level (bound (bound ks x 2) h 3) next))
+      (λ m. boundOf p (pastOf (sized (λ s′ i. nested s (inner names ps s) level ks i) s m)))
+      (λ e₁ m. thenAfter (sized (λ s′ i. nested s (inner names ps s) level ks i) s m) (λ e₂ i. Bound i p))
+      (λ e₁ m. then-past (sized (λ s′ i. nested s (inner names ps s) level ks i) s m) (λ i. Bound i p) (λ e₂ i. Bound i p) (λ e₂ i. refl)))

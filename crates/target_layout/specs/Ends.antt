@@ -3,7 +3,7 @@ use Prim.Native.Nat.{ℕ, _+_}
 use mathlib.Core.Bool.{Bool, cond}
 use mathlib.Core.List.{List}
 use lib.Dec.{eqb}
-use lib.ListN.{length}
+use Rattle.semantics.specs.Code.{Expr}
 use Rattle.parsing.specs.declared.Scan.{Scan}
 use Rattle.parsing.specs.declared.Scan.the-variants.{Past, Stopped}
 use Rattle.parsing.specs.declared.Count.{Count}
@@ -11,26 +11,33 @@ use Rattle.parsing.specs.declared.Count.the-variants.{Is, Outside}
 use Rattle.parsing.specs.declared.Checked.{Checked}
 use Rattle.parsing.specs.declared.Checked.the-variants.{Accepted}
 use Rattle.parsing.specs.declared.Checked.the-variants as checked
+use Rattle.parsing.specs.Refusals.{wrongLength}
 use Rattle.parsing.specs.Parser.{refusal, Parsed, read, refuse, pastOf}
 use Rattle.target_tags.specs.declared.tag.Tag.{Tag}
-use Rattle.target_tags.specs.declared.tag.Tag.the-variants.{Constant, Copy, Difference, Jump, Resume, Handle, Branch, Continuation, ContinuationWithHandler, Refused}
 use Rattle.target_names.specs.Names.{judged, bound}
 use Rattle.target_layout.specs.declared.layout.After.{After}
-use Rattle.target_layout.specs.declared.layout.After.the-variants.{Onward, Ended, Halted}
-use Rattle.target_layout.specs.Layout.{measured, sized, Reading, nested, expression}
+use Rattle.target_layout.specs.declared.layout.After.the-variants.{Onward, Bound, Ended, Halted}
+use Rattle.target_layout.specs.Layout.{measured, sized, Reading, nested, Behind, ends, goesOn, goesOnBound, part, sizedPart, Node, found, missing, nodeOf, expression}
 
 unfoldable pub measuredEnd : ℕ → ℕ → ℕ → Scan → Scan
-measuredEnd place at n (Past next) = cond (eqb next (at + n)) (Past next) (Stopped (refusal 12 place))
+measuredEnd place at n (Past next) = cond (eqb next (at + n)) (Past next) (Stopped (refusal wrongLength place))
 measuredEnd place at n (Stopped r) = Stopped r
-
--- What follows goes on behind a part, with a slot bound there to a whole number (36 for none).
-abbrev pub onwardOf : ℕ → Scan → After
-onwardOf x (Past next) = Onward next x
-onwardOf x (Stopped r) = Halted r
 
 abbrev pub thenOnward : Scan → (ℕ → After) → After
 thenOnward (Past next) k = k next
 thenOnward (Stopped r) k = Halted r
+
+-- What follows goes on behind a part, with the same slots ..
+abbrev pub onwardOf : Scan → After
+onwardOf x = thenOnward x (λ next. Onward next)
+
+-- .. or with a slot bound to a whole number.
+abbrev pub boundOf : ℕ → Scan → After
+boundOf slot x = thenOnward x (λ next. Bound next slot)
+
+abbrev pub thenAfter : Parsed Expr → (Expr → ℕ → After) → After
+thenAfter (read e next) k = k e next
+thenAfter (refuse r) k = Halted r
 
 abbrev pub afterOf : Checked → After → After
 afterOf Accepted a = a
@@ -49,20 +56,22 @@ module _ (names : Bool) (ps s : List ℕ) where
 
   unfoldable pub continuationWithHandlerEnd : ℕ → List ℕ → ℕ → ℕ → ℕ → ℕ → ℕ → ℕ → After
   continuationWithHandlerEnd level ks at x p t n next =
-      thenOnward (partEnd level (bound (bound ks x 2) t 3) (at + 4) next n) (λ m. onwardOf p (handlerEnd level ks m))
+      thenOnward (partEnd level (bound (bound ks x 2) t 3) (at + 4) next n) (λ m. boundOf p (handlerEnd level ks m))
 
-  -- The nested parts of a node, and what follows them.
+  -- The nested parts behind a node, and what follows them.
+  abbrev pub behindEnd : ℕ → ℕ → Behind → After
+  behindEnd level at (ends e) = Ended at
+  behindEnd level at (goesOn f) = Onward at
+  behindEnd level at (goesOnBound x f) = Bound at x
+  behindEnd level at (part place n ks f) = thenAfter (measured place at n (nested s inner level ks at)) (λ e m. behindEnd level m (f e))
+  behindEnd level at (sizedPart ks f) = thenAfter (sized (λ s′ m. nested s inner level ks m) s at) (λ e m. behindEnd level m (f e))
+
+  abbrev pub afterNode : ℕ → Node → After
+  afterNode level (found at b) = behindEnd level at b
+  afterNode level (missing r) = Halted r
+
   unfoldable pub partsEnd : ℕ → List ℕ → ℕ → Tag → After
-  partsEnd level ks at (Constant x i next) = Onward next x
-  partsEnd level ks at (Copy x y next) = Onward next x
-  partsEnd level ks at (Difference x y z next) = Onward next x
-  partsEnd level ks at (Jump g k h n next) = Ended next
-  partsEnd level ks at (Resume k y next) = Ended next
-  partsEnd level ks at (Handle h next) = Ended next
-  partsEnd level ks at (Branch y z n next) = onwardOf 36 (partEnd level ks (at + 3) next n)
-  partsEnd level ks at (Continuation x p n next) = onwardOf p (partEnd level (bound ks x 2) (at + 3) next n)
-  partsEnd level ks at (ContinuationWithHandler x p t n next) = continuationWithHandlerEnd level ks at x p t n next
-  partsEnd level ks at (Refused r) = Halted r
+  partsEnd level ks at t = afterNode level (nodeOf s ks at t)
 
   unfoldable pub nodeEnd : ℕ → List ℕ → ℕ → Tag → After
   nodeEnd level ks at t = afterOf (judged names ps ks s at t) (partsEnd level ks at t)

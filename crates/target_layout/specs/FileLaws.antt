@@ -1,8 +1,8 @@
 -- Laws of functions and of the whole file, as the functions that read a file meet them.
 use Prim.Native.Nat.{ℕ, _+_, _≤_, _<_}
-use mathlib.Core.Path.{_≡_, refl, sym, ap, _∙_}
+use mathlib.Core.Path.{_≡_, refl, sym, ap, _∙_, subst}
 use mathlib.Core.Bool.{Bool, true, false, cond}
-use mathlib.Core.List.{List}
+use mathlib.Core.List.{List, [], _∷_, _++_}
 use borrow.Author.Tests.{le-leb, lt-leb, leb-true}
 use lib.Dec.{leb}
 use lib.ListN.{length}
@@ -12,12 +12,12 @@ use Rattle.parsing.specs.declared.Scan.{Scan}
 use Rattle.parsing.specs.declared.Scan.the-variants.{Past, Stopped}
 use Rattle.parsing.specs.declared.Count.the-variants.{Is, Outside}
 use Rattle.parsing.specs.Parser.{refusal, Parsed, read, refuse, andThen, many, pastOf}
-use Rattle.parsing.specs.Fields.{cut, marked, version, count, counted, ended}
-use Rattle.parsing.specs.ParserLaws.{past-read, past-refuse, count-is, count-outside, read-count}
-use Rattle.parsing.specs.BytesAtLaws.{bytes-at-marked, bytes-at-version}
+use Rattle.parsing.specs.Fields.{cut, head, count, counted, ended}
+use Rattle.parsing.specs.ParserLaws.{past-read, past-refuse, sequence, count-is, count-outside, read-count}
+use Rattle.parsing.specs.BytesAtLaws.{BytesAt, read-head, past-head}
 use Rattle.target_tags.specs.Tag.{pairAt}
 use Rattle.target_names.specs.Names.{entryKinds}
-use Rattle.target_layout.specs.Layout.{spc, pair, sized, expression, function, functions, code}
+use Rattle.target_layout.specs.Layout.{spc, fileLimit, pair, sized, expression, function, functions, targets, code}
 use Rattle.target_layout.specs.Ends.{measuredEnd, bodyEnd, functionsRead}
 use Rattle.target_layout.specs.PartLaws.{impossible}
 use Rattle.target_layout.specs.EndLaws.{past-measured}
@@ -117,45 +117,38 @@ module _ (names : Bool) (ps s : List ℕ) (at : ℕ) where
 
 -- The whole file.
 module _ (names : Bool) (ps s : List ℕ) where
-  pub mark-refused : (r : Refusal) → pastOf (marked spc s 0) ≡ Stopped r → Stopped r ≡ pastOf (code names ps s 0)
+  pub head-refused : (r : Refusal) → pastOf (head spc fileLimit s 0) ≡ Stopped r → Stopped r ≡ pastOf (code names ps s 0)
   unfolding code
-  mark-refused r e = rw (past-refuse (marked spc s 0) e)
+  head-refused r e = rw (past-refuse (head spc fileLimit s 0) e)
 
-  module _ (a : ℕ) (mark : pastOf (marked spc s 0) ≡ Past a) where
-    mark-is : (x : Parsed (Unit {0})) → marked spc s 0 ≡ x → pastOf x ≡ Past a → x ≡ read tt 3
-    mark-is (read tt m) w f = ap (read tt) (bytes-at-marked s spc 0 w .past)
-    mark-is (refuse r) w f = impossible (cc)
+  module _ (a : ℕ) (whole : pastOf (head spc fileLimit s 0) ≡ Past a) where
+    after-head : head spc fileLimit s 0 ≡ read tt 5
+    after-head = past-head s spc fileLimit whole .1
 
-    after-mark : marked spc s 0 ≡ read tt 3
-    after-mark = mark-is (marked spc s 0) refl mark
+    pub count-refused : (r : Refusal) → functionsRead (functions s 5) ≡ Outside r → Stopped r ≡ pastOf (code names ps s 0)
+    unfolding code targets
+    count-refused r e = rw (after-head, functions-outside s 5 e)
 
-    pub version-refused : (r : Refusal) → pastOf (version s 3) ≡ Stopped r → Stopped r ≡ pastOf (code names ps s 0)
-    unfolding code
-    version-refused r e = rw (after-mark, past-refuse (version s 3) e)
+    module _ (n : ℕ) (some : functionsRead (functions s 5) ≡ Is n) where
+      pub functions-refused : (r : Refusal) → pastOf (many n (function names ps) s 7) ≡ Stopped r → Stopped r ≡ pastOf (code names ps s 0)
+      unfolding code targets
+      functions-refused r e = rw (after-head, functions-is s 5 some, past-refuse (many n (function names ps) s 7) e)
 
-    module _ (b : ℕ) (versioned : pastOf (version s 3) ≡ Past b) where
-      version-is : (x : Parsed (Unit {0})) → version s 3 ≡ x → pastOf x ≡ Past b → x ≡ read tt 5
-      version-is (read tt m) w f = ap (read tt) (bytes-at-version s 3 w .past)
-      version-is (refuse r) w f = impossible (cc)
+      pub functions-past : (m : ℕ) → pastOf (many n (function names ps) s 7) ≡ Past m → pastOf (ended s m) ≡ pastOf (code names ps s 0)
+      unfolding code targets
+      functions-past m e =
+          let f = past-read (many n (function names ps) s 7) e in
+          rw (after-head, functions-is s 5 some, f .is) (go (f .what) (ended s m))
+        where
+          go : (Q : Code) (x : Parsed (Unit {0})) → pastOf x ≡ pastOf (andThen x (λ u k. read Q k))
+          go Q (read u k) = refl
+          go Q (refuse r) = refl
 
-      after-version : version s 3 ≡ read tt 5
-      after-version = version-is (version s 3) refl versioned
-
-      pub count-refused : (r : Refusal) → functionsRead (functions s 5) ≡ Outside r → Stopped r ≡ pastOf (code names ps s 0)
-      unfolding code
-      count-refused r e = rw (after-mark, after-version, functions-outside s 5 e)
-
-      module _ (n : ℕ) (some : functionsRead (functions s 5) ≡ Is n) where
-        pub functions-refused : (r : Refusal) → pastOf (many n (function names ps) s 7) ≡ Stopped r → Stopped r ≡ pastOf (code names ps s 0)
-        unfolding code
-        functions-refused r e = rw (after-mark, after-version, functions-is s 5 some, past-refuse (many n (function names ps) s 7) e)
-
-        pub functions-past : (m : ℕ) → pastOf (many n (function names ps) s 7) ≡ Past m → pastOf (ended s m) ≡ pastOf (code names ps s 0)
-        unfolding code
-        functions-past m e =
-            let f = past-read (many n (function names ps) s 7) e in
-            rw (after-mark, after-version, functions-is s 5 some, f .is) (go (f .what) (ended s m))
-          where
-            go : (Q : Code) (x : Parsed (Unit {0})) → pastOf x ≡ pastOf (andThen x (λ u k. read Q k))
-            go Q (read u k) = refl
-            go Q (refuse r) = refl
+  -- A file that was read: its limit, its head, and what stands behind it.
+  pub read-code : {Q : Code} {next : ℕ} → code names ps s 0 ≡ read Q next
+      → (length s ≤ fileLimit) × BytesAt s 0 5 (spc ++ 1 ∷ 0 ∷ []) × (targets names ps s 5 ≡ read Q next)
+  unfolding code
+  read-code {Q} {next} e =
+      let a = sequence (head spc fileLimit s 0) (λ u m. targets names ps s m) e in
+      let h = read-head s spc fileLimit (a .reads) in
+      (h .0, subst (λ (m : ℕ). BytesAt s 0 m (spc ++ 1 ∷ 0 ∷ [])) (h .1 .past) (h .1), subst (λ (m : ℕ). targets names ps s m ≡ read Q next) (h .1 .past) (a .follows))

@@ -1,12 +1,12 @@
--- The expression at an offset is what the node there makes of its parts.
+-- The expression at an offset is what the node there makes of what stands behind it.
 use Prim.Native.Nat.{ℕ, zero, suc, _+_, _≤_, _<_}
 use mathlib.Core.Path.{_≡_, refl, sym, ap, _∙_}
 use mathlib.Core.Bool.{Bool, true, false, cond}
-use mathlib.Core.List.{List}
+use mathlib.Core.List.{List, []}
 use native.Mathlib.Omega.{arith}
 use lib.Dec.{leb, ltb, eqb}
-use lib.ListN.{length, getD}
-use Rattle.semantics.specs.Code.{Expr, ifAtMost, letContinuation, letContinuationWithHandler}
+use lib.ListN.{length}
+use Rattle.semantics.specs.Code.{Expr}
 use Rattle.parsing.specs.Parser.{refusal, Parsed, read, refuse, andThen}
 use Rattle.parsing.specs.Fields.{cut}
 use Rattle.target_tags.specs.declared.tag.Tag.{Tag}
@@ -14,8 +14,37 @@ use Rattle.target_tags.specs.declared.tag.Tag.the-variants.{Refused}
 use Rattle.target_tags.specs.Tag.{pairAt, tagAt}
 use Rattle.target_names.specs.Names.{namesOf, judged, bound}
 use Rattle.target_tags.specs.TagLaws.{tag-past}
-use Rattle.target_tags.specs.ViewLaws.{View, isConstant, isCopy, isDifference, isJump, isResume, isHandle, isBranch, isContinuation, isBoth, isRefused, view}
-use Rattle.target_layout.specs.Layout.{pair, measured, sized, Reading, nested, before, from, after, node, expressionN, expression}
+use Rattle.target_tags.specs.ViewLaws.{View, isConstant, isCopy, isDifference, isJump, isResume, isHandle, isBranch, isContinuation, isBoth, isRefused, view, seen}
+use Rattle.target_layout.specs.Layout.{pair, measured, sized, Reading, nested, before, Behind, ends, goesOn, goesOnBound, part, sizedPart, Node, found, missing, nodeOf, readBehind, readNode, after, node, expressionN, expression}
+
+-- A node's own fields are inside the file.
+pub record Fields (s : List ℕ) (at next : ℕ) : Type 0 where
+  pub here : at < length s
+  pub forward : at < next
+  pub inside : next ≤ length s
+
+abbrev pub NodeIn : List ℕ → ℕ → Node → Type 0
+NodeIn s at (found next b) = Fields s at next
+NodeIn s at (missing r) = Unit {0}
+
+module _ (s : List ℕ) (at : ℕ) where
+  ending : {next : ℕ} → at < next → next ≤ length s → Fields s at next
+  ending h i = record { here = omega arith; forward = h; inside = i }
+
+  pub node-in : (ks : List ℕ) {t : Tag} → View s at t → NodeIn s at (nodeOf s ks at t)
+  node-in ks (isConstant e h) = ending (omega arith) h
+  node-in ks (isCopy e h) = ending (omega arith) h
+  node-in ks (isDifference e h) = ending (omega arith) h
+  node-in ks (isJump e h) = ending (omega arith) h
+  node-in ks (isResume e h) = ending (omega arith) h
+  node-in ks (isHandle e h) = ending (omega arith) h
+  node-in ks (isBranch e h) = ending (omega arith) h
+  node-in ks (isContinuation e h) = ending (omega arith) h
+  node-in ks (isBoth e h) = ending (omega arith) h
+  node-in ks (isRefused r) = tt
+
+  pub node-fields : (t : Tag) → t ≡ tagAt s at → NodeIn s at (nodeOf s [] at t)
+  node-fields t is = node-in [] (seen s at t is)
 
 -- What follows a part begins where the part's length says.
 pub through : (place at n : ℕ) (K L : Expr → ℕ → Parsed Expr) {x y : Parsed Expr} → x ≡ y → ((e : Expr) → K e (at + n) ≡ L e (at + n))
@@ -51,47 +80,27 @@ module _ (s : List ℕ) where
         go true = through m (m + 2) (pairAt s m) K L (nested-same level ks (m + 2) (omega arith)) (λ e. f e (m + 2 + pairAt s m) (omega arith))
         go false = refl
 
-    from-same : {t : Tag} → View s at t → (level : ℕ) (ks : List ℕ) → from s k level ks at t ≡ from s l level ks at t
+    behind-same : (level : ℕ) (ks : List ℕ) (m : ℕ) → at < m → (b : Behind) → readBehind s k level ks m b ≡ readBehind s l level ks m b
     unfolding Agree
-    from-same (isConstant e h) level ks = ap (before _) (same level _ (at + 6) (omega arith))
-    from-same (isCopy e h) level ks = ap (before _) (same level _ (at + 3) (omega arith))
-    from-same (isDifference e h) level ks = ap (before _) (same level _ (at + 4) (omega arith))
-    from-same (isJump e h) level ks = refl
-    from-same (isResume e h) level ks = refl
-    from-same (isHandle e h) level ks = refl
-    from-same (isBranch e h) level ks =
-        through (at + 3) (at + 5) (pairAt s (at + 3))
-        (λ e₁ m. before (ifAtMost (getD s (at + 1) 0) (getD s (at + 2) 0) e₁) (k level ks m))
-        (λ e₁ m. before (ifAtMost (getD s (at + 1) 0) (getD s (at + 2) 0) e₁) (l level ks m))
-        (nested-same level ks (at + 5) (omega arith))
-        (λ e₁. ap (before _) (same level ks (at + 5 + pairAt s (at + 3)) (omega arith)))
-    from-same (isContinuation e h) level ks =
-        let x = getD s (at + 1) 0 in
-        let p = getD s (at + 2) 0 in
-        through (at + 3) (at + 5) (pairAt s (at + 3))
-        (λ e₁ m. before (letContinuation x p e₁) (k level (bound ks p 1) m))
-        (λ e₁ m. before (letContinuation x p e₁) (l level (bound ks p 1) m))
-        (nested-same level (bound ks x 2) (at + 5) (omega arith))
-        (λ e₁. ap (before _) (same level _ (at + 5 + pairAt s (at + 3)) (omega arith)))
-    from-same (isBoth e h) level ks =
-        let x = getD s (at + 1) 0 in
-        let p = getD s (at + 2) 0 in
-        let t = getD s (at + 3) 0 in
-        through (at + 4) (at + 6) (pairAt s (at + 4))
-        (λ e₁ m. andThen (sized (λ s′ m₁. nested s k level ks m₁) s m) (λ h m₂. before (letContinuationWithHandler x p t e₁ h) (k level (bound ks p 1) m₂)))
-        (λ e₁ m. andThen (sized (λ s′ m₁. nested s l level ks m₁) s m) (λ h m₂. before (letContinuationWithHandler x p t e₁ h) (l level (bound ks p 1) m₂)))
-        (nested-same level (bound (bound ks x 2) t 3) (at + 6) (omega arith))
-        (λ e₁. sized-same level ks (at + 6 + pairAt s (at + 4))
-        (λ h m₂. before (letContinuationWithHandler x p t e₁ h) (k level (bound ks p 1) m₂))
-        (λ h m₂. before (letContinuationWithHandler x p t e₁ h) (l level (bound ks p 1) m₂))
-        (omega arith) (λ e₂ i lt. ap (before (letContinuationWithHandler x p t e₁ e₂)) (same level (bound ks p 1) i lt)))
-    from-same (isRefused r) level ks = refl
+    behind-same level ks m h (ends e) = refl
+    behind-same level ks m h (goesOn f) = ap (before f) (same level ks m h)
+    behind-same level ks m h (goesOnBound x f) = ap (before f) (same level (bound ks x 1) m h)
+    behind-same level ks m h (part place n kinds f) =
+        through place m n (λ e i. readBehind s k level ks i (f e)) (λ e i. readBehind s l level ks i (f e)) (nested-same level kinds m h)
+        (λ e. behind-same level ks (m + n) (omega arith) (f e))
+    behind-same level ks m h (sizedPart kinds f) =
+        sized-same level kinds m (λ e i. readBehind s k level ks i (f e)) (λ e i. readBehind s l level ks i (f e)) h
+        (λ e i lt. behind-same level ks i lt (f e))
+
+    node-same : (level : ℕ) (ks : List ℕ) (N : Node) → NodeIn s at N → readNode s k level ks N ≡ readNode s l level ks N
+    node-same level ks (found m b) i = behind-same level ks m (i .forward) b
+    node-same level ks (missing r) i = refl
 
 module _ (names : Bool) (ps s : List ℕ) where
   past-end : (inner : Reading) (level : ℕ) (ks : List ℕ) (at : ℕ) → length s ≤ at → node names ps s inner level ks at ≡ refuse (cut s)
   unfolding judged namesOf
   past-end inner level ks at h =
-      ap (λ t. after (judged names ps ks s at t) (from s inner level ks at t)) (sym (tag-past s at h)) ∙ go names
+      ap (λ t. after (judged names ps ks s at t) (readNode s inner level ks (nodeOf s ks at t))) (sym (tag-past s at h)) ∙ go names
     where
       go : (b : Bool) → _≡_ {A = Parsed Expr} (after (judged b ps ks s at (Refused (cut s))) (refuse (cut s))) (refuse (cut s))
       go true = refl
@@ -102,7 +111,7 @@ module _ (names : Bool) (ps s : List ℕ) where
   more-fuel zero level ks at h = sym (past-end (expressionN names ps s zero) level ks at (omega arith))
   more-fuel (suc n) level ks at h =
       ap (after (judged names ps ks s at (tagAt s at)))
-      (from-same s at (expressionN names ps s n) (expressionN names ps s (suc n)) (λ l k m lt. more-fuel n l k m (omega arith)) (view s at) level ks)
+      (node-same s at (expressionN names ps s n) (expressionN names ps s (suc n)) (λ l k m lt. more-fuel n l k m (omega arith)) level ks (nodeOf s ks at (tagAt s at)) (node-in s at ks (view s at)))
 
   pub expression-law : (level : ℕ) (ks : List ℕ) (at : ℕ)
       → expression names ps level ks s at ≡ node names ps s (λ l k m. expression names ps l k s m) level ks at

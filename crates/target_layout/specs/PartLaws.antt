@@ -6,7 +6,7 @@ use mathlib.Core.List.{List}
 use native.Mathlib.Omega.{arith}
 use borrow.Author.Tests.{eqb-true, leb-true, leb-false, ltb-true}
 use lib.Dec.{leb, ltb, eqb}
-use lib.ListN.{length, getD}
+use lib.ListN.{length}
 use Rattle.semantics.specs.Code.{Expr}
 use Rattle.parsing.specs.declared.Checked.{Checked}
 use Rattle.parsing.specs.declared.Checked.the-variants.{Accepted}
@@ -14,13 +14,11 @@ use Rattle.parsing.specs.declared.Checked.the-variants as checked
 use Rattle.parsing.specs.Parser.{refusal, Parsed, read, refuse, Parser, andThen}
 use Rattle.parsing.specs.Fields.{cut}
 use Rattle.parsing.specs.ParserLaws.{sequence}
-use Rattle.target_tags.specs.declared.tag.Tag.{Tag}
-use Rattle.target_tags.specs.declared.tag.Tag.the-variants.{Refused}
-use Rattle.target_tags.specs.declared.tag.Tag.the-variants as tags
 use Rattle.target_tags.specs.Tag.{pairAt, tagAt}
-use Rattle.target_names.specs.Names.{judged, bound}
-use Rattle.target_tags.specs.ViewLaws.{View, isConstant, isCopy, isDifference, isJump, isResume, isHandle, isBranch, isContinuation, isBoth, isRefused, view}
-use Rattle.target_layout.specs.Layout.{pair, measured, sized, Reading, nested, before, from, after, expressionN, expression}
+use Rattle.target_names.specs.Names.{judged}
+use Rattle.target_tags.specs.ViewLaws.{view}
+use Rattle.target_layout.specs.Layout.{pair, measured, sized, Reading, nested, before, Behind, ends, goesOn, goesOnBound, part, sizedPart, Node, found, missing, nodeOf, readBehind, readNode, after, expressionN, expression}
+use Rattle.target_layout.specs.LayoutLaws.{NodeIn, node-in}
 
 pub impossible : {A : Type 0} → _≡_ {A = ℕ} 0 1 → A
 impossible o = absurd (omega arith)
@@ -93,31 +91,34 @@ sized-read p s at {e} {next} w = go (leb (at + 2) (length s)) refl w
 
 -- An expression that was read ends inside the file.
 module _ (names : Bool) (ps s : List ℕ) where
-  from-inside : (k : Reading) → ((level : ℕ) (ks : List ℕ) (at : ℕ) (e : Expr) (next : ℕ) → k level ks at ≡ read e next → next ≤ length s)
-      → (level : ℕ) (ks : List ℕ) (at : ℕ) {e : Expr} {next : ℕ} {t : Tag} → View s at t → from s k level ks at t ≡ read e next → next ≤ length s
-  from-inside k ih level ks at (isConstant e h) w = ih level _ (at + 6) _ _ (before-read _ (k level _ (at + 6)) w .reads)
-  from-inside k ih level ks at (isCopy e h) w = ih level _ (at + 3) _ _ (before-read _ (k level _ (at + 3)) w .reads)
-  from-inside k ih level ks at (isDifference e h) w = ih level _ (at + 4) _ _ (before-read _ (k level _ (at + 4)) w .reads)
-  from-inside k ih level ks at {next = next} (isJump e h) w = let q : at + 6 + getD s (at + 5) 0 ≡ next = cc in omega arith
-  from-inside k ih level ks at {next = next} (isResume e h) w = let q : at + 3 ≡ next = cc in omega arith
-  from-inside k ih level ks at {next = next} (isHandle e h) w = let q : at + 2 ≡ next = cc in omega arith
-  from-inside k ih level ks at (isBranch e h) w =
-      let b = sequence (measured (at + 3) (at + 5) (pairAt s (at + 3)) (nested s k level ks (at + 5))) _ w in
-      ih level ks (b .middle) _ _ (before-read _ (k level ks (b .middle)) (b .follows) .reads)
-  from-inside k ih level ks at (isContinuation e h) w =
-      let b = sequence (measured (at + 3) (at + 5) (pairAt s (at + 3)) (nested s k level (bound ks (getD s (at + 1) 0) 2) (at + 5))) _ w in
-      ih level _ (b .middle) _ _ (before-read _ (k level _ (b .middle)) (b .follows) .reads)
-  from-inside k ih level ks at (isBoth e h) w =
-      let b = sequence (measured (at + 4) (at + 6) (pairAt s (at + 4)) (nested s k level (bound (bound ks (getD s (at + 1) 0) 2) (getD s (at + 3) 0) 3) (at + 6))) _ w in
-      let d = sequence (sized (λ s′ m. nested s k level ks m) s (b .middle)) _ (b .follows) in
-      ih level _ (d .middle) _ _ (before-read _ (k level _ (d .middle)) (d .follows) .reads)
-  from-inside k ih level ks at (isRefused r) w = impossible (cc)
+  Inside : Reading → Type 0
+  Inside k = (level : ℕ) (ks : List ℕ) (at : ℕ) (e : Expr) (next : ℕ) → k level ks at ≡ read e next → next ≤ length s
+
+  module _ (k : Reading) (ih : Inside k) (level : ℕ) (ks : List ℕ) where
+    behind-inside : (m : ℕ) → m ≤ length s → (b : Behind) {e : Expr} {next : ℕ} → readBehind s k level ks m b ≡ read e next → next ≤ length s
+    unfolding Inside
+    behind-inside m h (ends e) {next = next} w = let q : m ≡ next = cc in omega arith
+    behind-inside m h (goesOn f) w = ih level ks m _ _ (before-read f (k level ks m) w .reads)
+    behind-inside m h (goesOnBound x f) w = ih level _ m _ _ (before-read f (k level _ m) w .reads)
+    behind-inside m h (part place n kinds f) w =
+        let b = sequence (measured place m n (nested s k level kinds m)) (λ e i. readBehind s k level ks i (f e)) w in
+        let p = nested-read s k level kinds m (measured-read place m n (nested s k level kinds m) (b .reads) .reads) in
+        behind-inside (b .middle) (ih (level + 1) kinds m _ _ (p .reads)) (f (b .first)) (b .follows)
+    behind-inside m h (sizedPart kinds f) w =
+        let b = sequence (sized (λ s′ i. nested s k level kinds i) s m) (λ e i. readBehind s k level ks i (f e)) w in
+        let p = nested-read s k level kinds (m + 2) (sized-read (λ s′ i. nested s k level kinds i) s m (b .reads) .reads) in
+        behind-inside (b .middle) (ih (level + 1) kinds (m + 2) _ _ (p .reads)) (f (b .first)) (b .follows)
+
+    node-inside : (at : ℕ) (N : Node) → NodeIn s at N → {e : Expr} {next : ℕ} → readNode s k level ks N ≡ read e next → next ≤ length s
+    node-inside at (found m b) i w = behind-inside m (i .inside) b w
+    node-inside at (missing r) i w = impossible (cc)
 
   inside-fuel : (n level : ℕ) (ks : List ℕ) (at : ℕ) {e : Expr} {next : ℕ} → expressionN names ps s n level ks at ≡ read e next → next ≤ length s
+  unfolding Inside
   inside-fuel zero level ks at w = impossible (cc)
   inside-fuel (suc n) level ks at w =
-      from-inside (expressionN names ps s n) (λ l k m e i. inside-fuel n l k m) level ks at (view s at)
-      (after-read (judged names ps ks s at (tagAt s at)) (from s (expressionN names ps s n) level ks at (tagAt s at)) w .reads)
+      node-inside (expressionN names ps s n) (λ l k m e i. inside-fuel n l k m) level ks at (nodeOf s ks at (tagAt s at)) (node-in s at ks (view s at))
+      (after-read (judged names ps ks s at (tagAt s at)) (readNode s (expressionN names ps s n) level ks (nodeOf s ks at (tagAt s at))) w .reads)
 
   pub expression-inside : (level : ℕ) (ks : List ℕ) (at : ℕ) {e : Expr} {next : ℕ} → expression names ps level ks s at ≡ read e next → next ≤ length s
   unfolding expression

@@ -1,33 +1,42 @@
-// The reading of a file: the refusals 1 to 6 and 12, and where names are judged 9, 10, 11 and 13.
+// The reading of a file: the refusals 15, 1 to 6 and 12, and where names are judged 9, 10, 11 and 13.
 use casts::pair;
 use parsing::Checked;
 use parsing::Count;
 use parsing::Refusal;
 use parsing::Scan;
+use parsing::refusals;
 use target_names::names;
 use target_tags::tag;
 use target_tags::tag::Tag;
 ghost use mathlib.Core.Path.{_≡_};
 ghost use lib.ListN.{length};
 ghost use Prim.Native.Nat.{_≤_, _<_};
+ghost use Rattle.parsing.specs.Refusals.{endsEarly, outOfRange};
 ghost use Rattle.parsing.specs.Parser.{pastOf, many};
 ghost use Rattle.target_names.specs.Names.{bound};
 ghost use Rattle.target_names.specs.Standing.{Stands};
-ghost use Rattle.target_layout.specs.Layout.{expression, function, functions, code};
-ghost use Rattle.target_layout.specs.Ends.{measuredEnd, onwardOf, nodeEnd, partsEnd, continuationWithHandlerEnd, handlerEnd, partEnd, bodyEnd, functionsRead};
+ghost use Rattle.target_layout.specs.Layout.{fileLimit, expression, function, functions, code};
+ghost use Rattle.target_layout.specs.Ends.{measuredEnd, onwardOf, boundOf, nodeEnd, partsEnd, continuationWithHandlerEnd, handlerEnd, partEnd, bodyEnd, functionsRead};
 
-// What follows a node: an expression that goes on, with a slot bound there to a whole number (36 for none), or the end of the expression.
+// "15 file above its limit (.. translated 65,535 ..)."
+pub const FILE_LIMIT: usize = 65535;
+
+// "Function count (16 bits, 1 to 2,048)."
+pub const MAX_FUNCTIONS: usize = 2048;
+
+// What follows a node: an expression that goes on, with the same slots or with one more bound to a whole number; or the end of the expression.
 pub enum After {
-    Onward { next: usize, slot: usize },
+    Onward(usize),
+    Bound { next: usize, slot: usize },
     Ended(usize),
     Halted(Refusal),
 }
 
 fn cut(file: &[u8]) -> Scan
-    ensures { λ r. ⌜ r ≡ Scan.Stopped (record { number = 3; place = length (now (file .entry)) }) ⌝ }
+    ensures { λ r. ⌜ r ≡ Scan.Stopped (record { number = endsEarly; place = length (now (file .entry)) }) ⌝ }
 {
     Scan::Stopped(Refusal {
-        number: 3,
+        number: refusals::ENDS_EARLY,
         place: file.len(),
     })
 }
@@ -46,22 +55,32 @@ fn measured_end(part: Scan, at: usize, size: usize, place: usize) -> Scan
         Scan::Stopped(first) => Scan::Stopped(first),
         Scan::Past(next) => {
             if next < at {
-                return stopped(12, place);
+                return stopped(refusals::WRONG_LENGTH, place);
             }
             if next - at == size {
                 return Scan::Past(next);
             }
-            stopped(12, place)
+            stopped(refusals::WRONG_LENGTH, place)
         }
     }
 }
 
-// What follows the last nested part of a node.
-fn onward(part: Scan, slot: usize) -> After
-    ensures { λ r. ⌜ r ≡ onwardOf slot part ⌝ }
+// What follows the last nested part of a node, with the same slots.
+fn onward(part: Scan) -> After
+    ensures { λ r. ⌜ r ≡ onwardOf part ⌝ }
 {
     match part {
-        Scan::Past(next) => After::Onward { next, slot },
+        Scan::Past(next) => After::Onward(next),
+        Scan::Stopped(r) => After::Halted(r),
+    }
+}
+
+// What follows the last nested part of a node, with a slot bound.
+fn onward_bound(part: Scan, slot: usize) -> After
+    ensures { λ r. ⌜ r ≡ boundOf slot part ⌝ }
+{
+    match part {
+        Scan::Past(next) => After::Bound { next, slot },
         Scan::Stopped(r) => After::Halted(r),
     }
 }
@@ -75,7 +94,7 @@ fn expression_end(
     kinds: [u8; 36],
     start: usize,
 ) -> Scan
-    requires { ⌜ length (now file) ≤ 65535 ⌝ }
+    requires { ⌜ length (now file) ≤ fileLimit ⌝ }
     requires { ⌜ start ≤ length (now file) ⌝ }
     ensures { λ r. ⌜ r ≡ pastOf (expression names (now (params .entry)) level kinds (now (file .entry)) start) ⌝ }
 {
@@ -84,7 +103,10 @@ fn expression_end(
     loop {
         let node = tag::tag_at(file, at);
         match node_end(file, params, names, level, seen, at, node) {
-            After::Onward { next, slot } => {
+            After::Onward(next) => {
+                at = next;
+            }
+            After::Bound { next, slot } => {
                 let tail = names::bind(seen, slot, 1);
                 seen = tail;
                 at = next;
@@ -109,7 +131,7 @@ fn node_end(
     at: usize,
     node: Tag,
 ) -> After
-    requires { ⌜ length (now file) ≤ 65535 ⌝ }
+    requires { ⌜ length (now file) ≤ fileLimit ⌝ }
     requires { ⌜ Stands (now file) at node ⌝ }
     ensures { λ r. ⌜ r ≡ nodeEnd names (now (params .entry)) (now (file .entry)) level kinds at node ⌝ }
 {
@@ -129,48 +151,20 @@ fn parts_end(
     at: usize,
     node: Tag,
 ) -> After
-    requires { ⌜ length (now file) ≤ 65535 ⌝ }
+    requires { ⌜ length (now file) ≤ fileLimit ⌝ }
     requires { ⌜ Stands (now file) at node ⌝ }
     ensures { λ r. ⌜ r ≡ partsEnd names (now (params .entry)) (now (file .entry)) level kinds at node ⌝ }
 {
     match node {
-        Tag::Constant {
-            slot,
-            value: _,
-            next,
-        } => After::Onward { next, slot },
-        Tag::Copy {
-            slot,
-            from: _,
-            next,
-        } => After::Onward { next, slot },
-        Tag::Difference {
-            slot,
-            left: _,
-            right: _,
-            next,
-        } => After::Onward { next, slot },
-        Tag::Jump {
-            function: _,
-            continuation: _,
-            handler: _,
-            count: _,
-            next,
-        } => After::Ended(next),
-        Tag::Resume {
-            continuation: _,
-            value: _,
-            next,
-        } => After::Ended(next),
-        Tag::Handle { handler: _, next } => After::Ended(next),
-        Tag::Branch {
-            left: _,
-            right: _,
-            size,
-            next,
-        } => {
+        Tag::Constant { slot, next, .. } => After::Bound { next, slot },
+        Tag::Copy { slot, next, .. } => After::Bound { next, slot },
+        Tag::Difference { slot, next, .. } => After::Bound { next, slot },
+        Tag::Jump { next, .. } => After::Ended(next),
+        Tag::Resume { next, .. } => After::Ended(next),
+        Tag::Handle { next, .. } => After::Ended(next),
+        Tag::Branch { size, next, .. } => {
             let part = part_end(file, params, names, level, kinds, next, size, at + 3);
-            onward(part, 36)
+            onward(part)
         }
         Tag::Continuation {
             slot,
@@ -180,7 +174,7 @@ fn parts_end(
         } => {
             let rest = names::bind(kinds, slot, 2);
             let part = part_end(file, params, names, level, rest, next, size, at + 3);
-            onward(part, parameter)
+            onward_bound(part, parameter)
         }
         Tag::ContinuationWithHandler {
             slot,
@@ -219,7 +213,7 @@ fn continuation_with_handler_end(
     size: usize,
     next: usize,
 ) -> After
-    requires { ⌜ length (now file) ≤ 65535 ⌝ }
+    requires { ⌜ length (now file) ≤ fileLimit ⌝ }
     requires { ⌜ at < next ⌝ }
     requires { ⌜ next ≤ length (now file) ⌝ }
     ensures { λ r. ⌜ r ≡ continuationWithHandlerEnd names (now (params .entry)) (now (file .entry)) level kinds at slot parameter handler size next ⌝ }
@@ -228,7 +222,7 @@ fn continuation_with_handler_end(
     match part_end(file, params, names, level, rest, next, size, at + 4) {
         Scan::Past(middle) => {
             let body = handler_end(file, params, names, level, kinds, middle);
-            onward(body, parameter)
+            onward_bound(body, parameter)
         }
         Scan::Stopped(r) => After::Halted(r),
     }
@@ -243,7 +237,7 @@ fn handler_end(
     kinds: [u8; 36],
     at: usize,
 ) -> Scan
-    requires { ⌜ length (now file) ≤ 65535 ⌝ }
+    requires { ⌜ length (now file) ≤ fileLimit ⌝ }
     ensures { λ r. ⌜ r ≡ handlerEnd names (now (params .entry)) (now (file .entry)) level kinds at ⌝ }
 {
     if file.len() <= at {
@@ -268,7 +262,7 @@ fn part_end(
     size: usize,
     place: usize,
 ) -> Scan
-    requires { ⌜ length (now file) ≤ 65535 ⌝ }
+    requires { ⌜ length (now file) ≤ fileLimit ⌝ }
     ensures { λ r. ⌜ r ≡ partEnd names (now (params .entry)) (now (file .entry)) level kinds place at size ⌝ }
 {
     if file.len() <= at {
@@ -282,12 +276,12 @@ fn part_end(
             place,
         );
     }
-    stopped(5, at)
+    stopped(refusals::OUT_OF_RANGE, at)
 }
 
 // The body of a function behind its length.
 fn body_end(file: &[u8], params: &[u8], names: bool, kinds: [u8; 36], at: usize) -> Scan
-    requires { ⌜ length (now file) ≤ 65535 ⌝ }
+    requires { ⌜ length (now file) ≤ fileLimit ⌝ }
     ensures { λ r. ⌜ r ≡ bodyEnd names (now (params .entry)) (now (file .entry)) kinds at ⌝ }
 {
     if file.len() <= at {
@@ -304,7 +298,7 @@ fn body_end(file: &[u8], params: &[u8], names: bool, kinds: [u8; 36], at: usize)
 
 // The end of a function.
 fn function_end(file: &[u8], params: &[u8], names: bool, at: usize) -> Scan
-    requires { ⌜ length (now file) ≤ 65535 ⌝ }
+    requires { ⌜ length (now file) ≤ fileLimit ⌝ }
     ensures { λ r. ⌜ r ≡ pastOf (function names (now (params .entry)) (now (file .entry)) at) ⌝ }
 {
     match parsing::count_at(file, at, 0, 32) {
@@ -315,7 +309,7 @@ fn function_end(file: &[u8], params: &[u8], names: bool, at: usize) -> Scan
 
 // The end of n functions.
 fn functions_end(file: &[u8], params: &[u8], names: bool, start: usize, n: usize) -> Scan
-    requires { ⌜ length (now file) ≤ 65535 ⌝ }
+    requires { ⌜ length (now file) ≤ fileLimit ⌝ }
     ensures { λ r. ⌜ r ≡ pastOf (many n (function names (now (params .entry))) (now (file .entry)) start) ⌝ }
 {
     let mut at = start;
@@ -348,42 +342,41 @@ fn functions_at(file: &[u8], at: usize) -> Count
     if n < 1 {
         return outside(at);
     }
-    if 2048 < n {
+    if MAX_FUNCTIONS < n {
         return outside(at);
     }
     Count::Is(n)
 }
 
 fn short(file: &[u8]) -> Count
-    ensures { λ r. ⌜ r ≡ Count.Outside (record { number = 3; place = length (now (file .entry)) }) ⌝ }
+    ensures { λ r. ⌜ r ≡ Count.Outside (record { number = endsEarly; place = length (now (file .entry)) }) ⌝ }
 {
     Count::Outside(Refusal {
-        number: 3,
+        number: refusals::ENDS_EARLY,
         place: file.len(),
     })
 }
 
 fn outside(place: usize) -> Count
-    ensures { λ r. ⌜ r ≡ Count.Outside (record { number = 5; place = place }) ⌝ }
+    ensures { λ r. ⌜ r ≡ Count.Outside (record { number = outOfRange; place = place }) ⌝ }
 {
-    Count::Outside(Refusal { number: 5, place })
+    Count::Outside(Refusal {
+        number: refusals::OUT_OF_RANGE,
+        place,
+    })
 }
 
 // The whole file.
 pub fn code_end(file: &[u8], params: &[u8], names: bool) -> Scan
-    requires { ⌜ length (now file) ≤ 65535 ⌝ }
     ensures { λ r. ⌜ r ≡ pastOf (code names (now (params .entry)) (now (file .entry)) 0) ⌝ }
 {
-    match parsing::mark_end(file, b"SPC") {
+    match parsing::head_end(file, b"SPC", FILE_LIMIT) {
         Scan::Stopped(r) => Scan::Stopped(r),
-        Scan::Past(_) => match parsing::version_end(file, 3) {
-            Scan::Stopped(r) => Scan::Stopped(r),
-            Scan::Past(_) => match functions_at(file, 5) {
-                Count::Outside(r) => Scan::Stopped(r),
-                Count::Is(n) => match functions_end(file, params, names, 7, n) {
-                    Scan::Stopped(r) => Scan::Stopped(r),
-                    Scan::Past(end) => parsing::file_end(file, end),
-                },
+        Scan::Past(_) => match functions_at(file, 5) {
+            Count::Outside(r) => Scan::Stopped(r),
+            Count::Is(n) => match functions_end(file, params, names, 7, n) {
+                Scan::Stopped(r) => Scan::Stopped(r),
+                Scan::Past(end) => parsing::file_end(file, end),
             },
         },
     }

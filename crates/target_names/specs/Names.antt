@@ -7,9 +7,11 @@ use lib.Dec.{ltb, eqb}
 use lib.ListN.{length, getD, set, replicate}
 use Rattle.parsing.specs.declared.Checked.{Checked}
 use Rattle.parsing.specs.declared.Checked.the-variants.{Accepted, Refused}
+use Rattle.parsing.specs.Refusals.{missingFunction, calleeArity, unboundSlot, wrongSlot}
 use Rattle.parsing.specs.Parser.{refusal}
 use Rattle.target_tags.specs.declared.tag.Tag as tag
 use Rattle.target_tags.specs.declared.tag.Tag.{Tag}
+use Rattle.target_tags.specs.Tag.{maxSlots}
 use Rattle.target_tags.specs.declared.tag.Tag.the-variants.{Constant, Copy, Difference, Jump, Resume, Handle, Branch, Continuation, ContinuationWithHandler}
 
 infixr 20 _andAlso_
@@ -24,23 +26,23 @@ unless right number place = cond right Accepted (Refused (refusal number place))
 
 -- A slot that is bound: "13 slot above 35".
 unfoldable pub binds : ℕ → ℕ → Checked
-binds place x = unless (ltb x 36) 13 place
+binds place x = unless (ltb x maxSlots) wrongSlot place
 
 -- A slot that is read as one of kind k: "11 slot unbound or of another kind"; "at one byte 13 before 11".
 unfoldable pub reads : List ℕ → ℕ → ℕ → ℕ → Checked
-reads ks k place x = binds place x andAlso unless (eqb (getD ks x 0) k) 11 place
+reads ks k place x = binds place x andAlso unless (eqb (getD ks x 0) k) unboundSlot place
 
 -- "tag 9 with equal slots for both (at the handler slot)"
 unfoldable pub differ : ℕ → ℕ → ℕ → Checked
-differ place x t = cond (eqb x t) (Refused (refusal 13 place)) Accepted
+differ place x t = cond (eqb x t) (Refused (refusal wrongSlot place)) Accepted
 
 -- "9 no such function", where the functions have these numbers of parameters.
 unfoldable pub function : List ℕ → ℕ → ℕ → Checked
-function ps place g = unless (ltb g (length ps)) 9 place
+function ps place g = unless (ltb g (length ps)) missingFunction place
 
 -- "10 argument count unlike the callee's (at the count)."
 unfoldable pub arity : List ℕ → ℕ → ℕ → ℕ → Checked
-arity ps place g n = unless (eqb n (getD ps g 0)) 10 place
+arity ps place g n = unless (eqb n (getD ps g 0)) calleeArity place
 
 -- The n values of a jump, from an offset on.
 abbrev pub values : List ℕ → List ℕ → ℕ → ℕ → Checked
@@ -77,7 +79,7 @@ judged names ps ks s at t = cond names (namesOf ps ks s at t) Accepted
 
 -- The kinds with a slot bound. "A slot may be bound anew, with another kind."
 unfoldable pub bound : List ℕ → ℕ → ℕ → List ℕ
-bound ks x k = cond (ltb x 36) (set ks x k) ks
+bound ks x k = cond (ltb x maxSlots) (set ks x k) ks
 
 -- The kinds with which a function of n parameters begins: continuation, handler, its parameters in slots 2 upward.
 unfoldable pub entryKinds : ℕ → List ℕ

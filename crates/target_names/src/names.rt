@@ -2,6 +2,8 @@
 use casts::byte_number;
 use parsing::Checked;
 use parsing::Refusal;
+use parsing::refusals;
+use target_tags::tag::MAX_SLOTS;
 use target_tags::tag::Tag;
 ghost use mathlib.Core.Path.{_≡_};
 ghost use lib.ListN.{length, getD};
@@ -29,23 +31,23 @@ fn and_also(first: Checked, second: Checked) -> Checked
 fn binds_slot(slot: usize, place: usize) -> Checked
     ensures { λ r. ⌜ r ≡ binds place slot ⌝ }
 {
-    if slot < 36 {
+    if slot < MAX_SLOTS {
         return Checked::Accepted;
     }
-    refused(13, place)
+    refused(refusals::WRONG_SLOT, place)
 }
 
 // A slot that is read as one of a kind.
-fn reads_slot(kinds: [u8; 36], kind: u8, slot: usize, at: usize) -> Checked
+fn reads_slot(kinds: [u8; MAX_SLOTS], kind: u8, slot: usize, at: usize) -> Checked
     ensures { λ r. ⌜ r ≡ reads kinds kind at slot ⌝ }
 {
-    if slot < 36 {
+    if slot < MAX_SLOTS {
         if kinds[slot] == kind {
             return Checked::Accepted;
         }
-        return refused(11, at);
+        return refused(refusals::UNBOUND_SLOT, at);
     }
-    refused(13, at)
+    refused(refusals::WRONG_SLOT, at)
 }
 
 // The two slots of tag 9.
@@ -53,7 +55,7 @@ fn differs(slot: usize, handler: usize, place: usize) -> Checked
     ensures { λ r. ⌜ r ≡ differ place slot handler ⌝ }
 {
     if slot == handler {
-        return refused(13, place);
+        return refused(refusals::WRONG_SLOT, place);
     }
     Checked::Accepted
 }
@@ -65,7 +67,7 @@ fn names_function(params: &[u8], number: usize, place: usize) -> Checked
     if number < params.len() {
         return Checked::Accepted;
     }
-    refused(9, place)
+    refused(refusals::MISSING_FUNCTION, place)
 }
 
 fn params_of(params: &[u8], number: usize) -> usize
@@ -84,11 +86,11 @@ fn counts(params: &[u8], number: usize, count: usize, place: usize) -> Checked
     if count == params_of(params, number) {
         return Checked::Accepted;
     }
-    refused(10, place)
+    refused(refusals::CALLEE_ARITY, place)
 }
 
 // The values of a jump.
-fn reads_values(file: &[u8], kinds: [u8; 36], start: usize, count: usize) -> Checked
+fn reads_values(file: &[u8], kinds: [u8; MAX_SLOTS], start: usize, count: usize) -> Checked
     requires { ⌜ start + count ≤ length (now file) ⌝ }
     ensures { λ r. ⌜ r ≡ values kinds (now (file .entry)) start count ⌝ }
 {
@@ -112,7 +114,7 @@ fn reads_values(file: &[u8], kinds: [u8; 36], start: usize, count: usize) -> Che
 fn names_jump(
     file: &[u8],
     params: &[u8],
-    kinds: [u8; 36],
+    kinds: [u8; MAX_SLOTS],
     at: usize,
     number: usize,
     continuation: usize,
@@ -152,26 +154,21 @@ fn names_continuation_with_handler(
 }
 
 // The names of the node that stands at an offset.
-fn names_of(file: &[u8], params: &[u8], kinds: [u8; 36], at: usize, tag: Tag) -> Checked
+fn names_of(file: &[u8], params: &[u8], kinds: [u8; MAX_SLOTS], at: usize, tag: Tag) -> Checked
     requires { ⌜ Stands (now file) at tag ⌝ }
     ensures { λ r. ⌜ r ≡ namesOf (now (params .entry)) kinds (now (file .entry)) at tag ⌝ }
 {
     match tag {
-        Tag::Constant {
-            slot,
-            value: _,
-            next: _,
-        } => binds_slot(slot, at + 1),
-        Tag::Copy {
-            slot,
-            from,
-            next: _,
-        } => and_also(binds_slot(slot, at + 1), reads_slot(kinds, 1, from, at + 2)),
+        Tag::Constant { slot, .. } => binds_slot(slot, at + 1),
+        Tag::Copy { slot, from, .. } => and_also(
+            binds_slot(slot, at + 1),
+            reads_slot(kinds, 1, from, at + 2),
+        ),
         Tag::Difference {
             slot,
             left,
             right,
-            next: _,
+            ..
         } => and_also(
             binds_slot(slot, at + 1),
             and_also(
@@ -184,7 +181,7 @@ fn names_of(file: &[u8], params: &[u8], kinds: [u8; 36], at: usize, tag: Tag) ->
             continuation,
             handler,
             count,
-            next: _,
+            ..
         } => names_jump(
             file,
             params,
@@ -198,33 +195,26 @@ fn names_of(file: &[u8], params: &[u8], kinds: [u8; 36], at: usize, tag: Tag) ->
         Tag::Resume {
             continuation,
             value,
-            next: _,
+            ..
         } => and_also(
             reads_slot(kinds, 2, continuation, at + 1),
             reads_slot(kinds, 1, value, at + 2),
         ),
-        Tag::Handle { handler, next: _ } => reads_slot(kinds, 3, handler, at + 1),
-        Tag::Branch {
-            left,
-            right,
-            size: _,
-            next: _,
-        } => and_also(
+        Tag::Handle { handler, .. } => reads_slot(kinds, 3, handler, at + 1),
+        Tag::Branch { left, right, .. } => and_also(
             reads_slot(kinds, 1, left, at + 1),
             reads_slot(kinds, 1, right, at + 2),
         ),
         Tag::Continuation {
             slot,
             parameter,
-            size: _,
-            next: _,
+            ..
         } => and_also(binds_slot(slot, at + 1), binds_slot(parameter, at + 2)),
         Tag::ContinuationWithHandler {
             slot,
             parameter,
             handler,
-            size: _,
-            next: _,
+            ..
         } => names_continuation_with_handler(at, slot, parameter, handler),
         Tag::Refused(_) => Checked::Accepted,
     }
@@ -235,7 +225,7 @@ pub fn judge(
     names: bool,
     file: &[u8],
     params: &[u8],
-    kinds: [u8; 36],
+    kinds: [u8; MAX_SLOTS],
     at: usize,
     tag: Tag,
 ) -> Checked
@@ -249,22 +239,22 @@ pub fn judge(
 }
 
 // The kinds with a slot bound.
-pub fn bind(kinds: [u8; 36], slot: usize, kind: u8) -> [u8; 36]
+pub fn bind(kinds: [u8; MAX_SLOTS], slot: usize, kind: u8) -> [u8; MAX_SLOTS]
     ensures { λ r. ⌜ r ≡ bound kinds slot kind ⌝ }
 {
     let mut new = kinds;
-    if slot < 36 {
+    if slot < MAX_SLOTS {
         new[slot] = kind;
     }
     new
 }
 
 // The kinds with which a function begins.
-pub fn entry_kinds(params: usize) -> [u8; 36]
+pub fn entry_kinds(params: usize) -> [u8; MAX_SLOTS]
     requires { ⌜ params ≤ 32 ⌝ }
     ensures { λ r. ⌜ r ≡ entryKinds params ⌝ }
 {
-    let mut kinds = [0u8; 36];
+    let mut kinds = [0u8; MAX_SLOTS];
     kinds[0] = 2;
     kinds[1] = 3;
     let mut i = 0;

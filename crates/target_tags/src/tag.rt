@@ -2,10 +2,15 @@
 use casts::byte_number;
 use casts::pair;
 use parsing::Refusal;
+use parsing::refusals;
 ghost use mathlib.Core.Path.{_≡_};
 ghost use lib.ListN.{length};
 ghost use Prim.Native.Nat.{_+_, _*_, _<_};
+ghost use Rattle.parsing.specs.Fields.{cut};
 ghost use Rattle.target_tags.specs.Tag.{tagAt, constantAt, copyAt, differenceAt, jumpAt, resumeAt, handleAt, branchAt, continuationAt, continuationWithHandlerAt};
+
+// "Slots are 0 to 35."
+pub const MAX_SLOTS: usize = 36;
 
 // A node as it stands in the file: its fields, and the offset past them. Its names are not judged here.
 pub enum Tag {
@@ -64,10 +69,10 @@ pub enum Tag {
 }
 
 fn cut(file: &[u8]) -> Tag
-    ensures { λ r. ⌜ r ≡ Tag.Refused (record { number = 3; place = length (now (file .entry)) }) ⌝ }
+    ensures { λ r. ⌜ r ≡ Tag.Refused (cut (now (file .entry))) ⌝ }
 {
     Tag::Refused(Refusal {
-        number: 3,
+        number: refusals::ENDS_EARLY,
         place: file.len(),
     })
 }
@@ -253,7 +258,7 @@ pub fn tag_at(file: &[u8], at: usize) -> Tag
         8 => continuation_at(file, at),
         9 => continuation_with_handler_at(file, at),
         _ => Tag::Refused(Refusal {
-            number: 6,
+            number: refusals::UNKNOWN,
             place: at,
         }),
     }

@@ -7,7 +7,8 @@ use Rattle.parsing.specs.Parser.{pastOf}
 use Rattle.target_names.specs.Names.{bound}
 use Rattle.target_layout.specs.Layout.{expression}
 use Rattle.target_layout.specs.Ends.{partsEnd}
-use Rattle.target_layout.specs.EndLaws.{part-cut, part-in, part-deep, part-past, handler-cut, handler-in, tag-9-parts-on, tag-9-parts-stop, node-right, node-wrong, expression-onward, expression-ended, expression-halted, onward-moves, branch-fields, continuation-fields, tag-9-fields, branch-on, continuation-on, tag-9-on}
+use Rattle.target_layout.specs.LayoutLaws.{node-fields}
+use Rattle.target_layout.specs.EndLaws.{part-cut, part-in, part-deep, part-past, handler-cut, handler-in, tag-9-parts-on, tag-9-parts-stop, node-right, node-wrong, expression-onward, expression-bound, expression-ended, expression-halted, onward-moves, branch-on, continuation-on, tag-9-on}
 use borrow.Fn.Kinds.{In}
 use borrow.Fn.PlainCycle.{Measures, is, falls, and}
 use Rattle.target_layout.proofs.layout.continuation_with_handler_end.Reads as continuation-with-handler-end
@@ -31,6 +32,7 @@ use Rattle.target_layout.proofs.layout.+continuation_with_handler_end+e
 use Rattle.target_layout.proofs.layout.cut.Reads as cut-reads
 use Rattle.target_layout.proofs.layout.measured_end.Reads as measured-end-reads
 use Rattle.target_layout.proofs.layout.onward.Reads as onward-reads
+use Rattle.target_layout.proofs.layout.onward_bound.Reads as onward-bound-reads
 use Rattle.target_layout.proofs.layout.stopped.Reads as stopped-reads
 use Rattle.target_names.proofs.names.bind.Reads as bind-reads
 use Rattle.target_names.proofs.names.judge.Reads as judge-reads
@@ -115,7 +117,7 @@ parts-end-below t =
 
 -- What each member is told of its callees, by the cycle's measure t.
 abbrev continuation-with-handler-end-claims : ℕ → continuation-with-handler-end-lts.Claims
-continuation-with-handler-end-claims t = (bind-reads.Asked, bind-reads.Learnt, part-end-below t, part-end.Post, handler-end-below t, handler-end.Post, onward-reads.Asked, onward-reads.Learnt)
+continuation-with-handler-end-claims t = (bind-reads.Asked, bind-reads.Learnt, part-end-below t, part-end.Post, handler-end-below t, handler-end.Post, onward-bound-reads.Asked, onward-bound-reads.Learnt)
 
 abbrev expression-end-claims : ℕ → expression-end-lts.Claims
 expression-end-claims t = (tag-at-reads.Asked, tag-at-reads.Learnt, node-end-below t, node-end.Post, bind-reads.Asked, bind-reads.Learnt)
@@ -131,7 +133,7 @@ part-end-claims t =
     (cut-reads.Asked, cut-reads.Learnt, expression-end-below t, expression-end.Post, measured-end-reads.Asked, measured-end-reads.Learnt, stopped-reads.Asked, stopped-reads.Learnt)
 
 abbrev parts-end-claims : ℕ → parts-end-lts.Claims
-parts-end-claims t = (part-end-below t, part-end.Post, onward-reads.Asked, onward-reads.Learnt, bind-reads.Asked, bind-reads.Learnt, continuation-with-handler-end-below t, continuation-with-handler-end.Post)
+parts-end-claims t = (part-end-below t, part-end.Post, onward-reads.Asked, onward-reads.Learnt, bind-reads.Asked, bind-reads.Learnt, onward-bound-reads.Asked, onward-bound-reads.Learnt, continuation-with-handler-end-below t, continuation-with-handler-end.Post)
 
 continuation-with-handler-end-bind-requires : (t : ℕ) → continuation-with-handler-end-lts.Need-bind-requires (continuation-with-handler-end-claims t) (continuation-with-handler-end-at t) continuation-with-handler-end.Post
 continuation-with-handler-end-bind-requires t c κs = tt
@@ -163,8 +165,8 @@ continuation-with-handler-end-handler-end-requires t c κs =
     let w = part-past _ _ _ _ _ _ _ _ _ (sym (at-part-end .part-end .ensures) ∙ c .before .middle .given .1) in
     (omega (arith, q, p .1 .0, p .1 .1, w .fills), p .0)
 
-continuation-with-handler-end-onward-requires : (t : ℕ) → continuation-with-handler-end-lts.Need-onward-requires (continuation-with-handler-end-claims t) (continuation-with-handler-end-at t) continuation-with-handler-end.Post
-continuation-with-handler-end-onward-requires t c κs = tt
+continuation-with-handler-end-onward-bound-requires : (t : ℕ) → continuation-with-handler-end-lts.Need-onward-bound-requires (continuation-with-handler-end-claims t) (continuation-with-handler-end-at t) continuation-with-handler-end.Post
+continuation-with-handler-end-onward-bound-requires t c κs = tt
 
 continuation-with-handler-end-enum-known-r : (t : ℕ) → continuation-with-handler-end-lts.Need-enum-known-r (continuation-with-handler-end-claims t) (continuation-with-handler-end-at t) continuation-with-handler-end.Post
 continuation-with-handler-end-enum-known-r t c = search needs
@@ -177,7 +179,7 @@ continuation-with-handler-end-returns t c =
     let at-bind = at-bind2 .before in
     let entry = at-bind .before .before .before in
     tag-9-parts-on _ _ _ _ _ _ _ _ _ _ _ _ (at-bind2 .bind2 .ensures ∙ ap (λ l. bound l (entry .args .handler) 3) (at-bind .bind .ensures)) _
-    (sym (at-part-end .part-end .ensures) ∙ at-middle .middle .given .1) (c .onward .ensures) (c .before .handler-end .ensures)
+    (sym (at-part-end .part-end .ensures) ∙ at-middle .middle .given .1) (c .onward-bound .ensures) (c .before .handler-end .ensures)
 
 continuation-with-handler-end-returns-2 : (t : ℕ) → continuation-with-handler-end-lts.Need-returns-2 (continuation-with-handler-end-claims t) (continuation-with-handler-end-at t) continuation-with-handler-end.Post
 continuation-with-handler-end-returns-2 t c =
@@ -216,38 +218,55 @@ expression-end-enum-known-next : (t : ℕ) → expression-end-lts.Need-enum-know
     expression-end-μ-loop
 expression-end-enum-known-next t c = search needs
 
-expression-end-bind-requires : (t : ℕ) → expression-end-lts.Need-bind-requires (expression-end-claims t) (expression-end-at t) expression-end.Post expression-end-Inv-loop
-    expression-end-μ-loop
+expression-end-loop-less : (t : ℕ) → expression-end-lts.Need-loop-less (expression-end-claims t) (expression-end-at t) expression-end.Post expression-end-Inv-loop expression-end-μ-loop
+expression-end-loop-less t c =
+    let at-next = c .before in
+    let at-node-end = at-next .before .before in
+    let at-tag-at = at-node-end .before in
+    let m = onward-moves _ _ _ _ _ _ (at-tag-at .tag-at .ensures) (at-node-end .node-end .ensures) _ (at-next .next .given .1) refl in omega (arith, m .here, m .forward)
+
+expression-end-loop-again : (t : ℕ) → expression-end-lts.Need-loop-again (expression-end-claims t) (expression-end-at t) expression-end.Post expression-end-Inv-loop expression-end-μ-loop
+expression-end-loop-again t c =
+    let at-next = c .before in
+    let at-node-end = at-next .before .before in
+    let at-tag-at = at-node-end .before in
+    let at-loop = at-tag-at .before in
+    let m = onward-moves _ _ _ _ _ _ (at-tag-at .tag-at .ensures) (at-node-end .node-end .ensures) _ (at-next .next .given .1) refl in
+    let v = at-loop .loop .inv in
+    (omega (arith, v .0, m .forward), m .inside, expression-onward _ _ _ _ _ _ (at-tag-at .tag-at .ensures) (at-node-end .node-end .ensures) _ (at-next .next .given .1) ∙ v .2)
+
+expression-end-enum-known-next-2 : (t : ℕ) → expression-end-lts.Need-enum-known-next-2 (expression-end-claims t) (expression-end-at t) expression-end.Post expression-end-Inv-loop expression-end-μ-loop
+expression-end-enum-known-next-2 t c = search needs
+
+expression-end-bind-requires : (t : ℕ) → expression-end-lts.Need-bind-requires (expression-end-claims t) (expression-end-at t) expression-end.Post expression-end-Inv-loop expression-end-μ-loop
 expression-end-bind-requires t c κs = tt
 
-expression-end-loop-less : (t : ℕ) → expression-end-lts.Need-loop-less (expression-end-claims t) (expression-end-at t) expression-end.Post expression-end-Inv-loop
-    expression-end-μ-loop
-expression-end-loop-less t c =
-    let at-node-end = c .before .before .before .before in
+expression-end-loop-less-2 : (t : ℕ) → expression-end-lts.Need-loop-less-2 (expression-end-claims t) (expression-end-at t) expression-end.Post expression-end-Inv-loop expression-end-μ-loop
+expression-end-loop-less-2 t c =
+    let at-next = c .before .before in
+    let at-node-end = at-next .before .before in
     let at-tag-at = at-node-end .before in
-    let m = onward-moves _ _ _ _ _ _ (at-tag-at .tag-at .ensures) (at-node-end .node-end .ensures) _ _ (c .before .before .next .given .1) in omega (arith, m .here, m .forward)
+    let m = onward-moves _ _ _ _ _ _ (at-tag-at .tag-at .ensures) (at-node-end .node-end .ensures) _ (at-next .next2 .given .1) refl in omega (arith, m .here, m .forward)
 
-expression-end-loop-again : (t : ℕ) → expression-end-lts.Need-loop-again (expression-end-claims t) (expression-end-at t) expression-end.Post expression-end-Inv-loop
-    expression-end-μ-loop
-expression-end-loop-again t c =
+expression-end-loop-again-2 : (t : ℕ) → expression-end-lts.Need-loop-again-2 (expression-end-claims t) (expression-end-at t) expression-end.Post expression-end-Inv-loop expression-end-μ-loop
+expression-end-loop-again-2 t c =
     let at-next = c .before .before in
     let at-node-end = at-next .before .before in
     let at-tag-at = at-node-end .before in
     let at-loop = at-tag-at .before in
-    let m = onward-moves _ _ _ _ _ _ (at-tag-at .tag-at .ensures) (at-node-end .node-end .ensures) _ _ (at-next .next .given .1) in
+    let m = onward-moves _ _ _ _ _ _ (at-tag-at .tag-at .ensures) (at-node-end .node-end .ensures) _ (at-next .next2 .given .1) refl in
     let v = at-loop .loop .inv in
-    (omega (arith, v .0, m .forward), m .inside, expression-onward _ _ _ _ _ _ (at-tag-at .tag-at .ensures) (at-node-end .node-end .ensures) _ _ _ (at-next .next .given .1) (c .bind .ensures) ∙ v .2)
+    (omega (arith, v .0, m .forward), m .inside, expression-bound _ _ _ _ _ _ (at-tag-at .tag-at .ensures) (at-node-end .node-end .ensures) _ _ _ (at-next .next2 .given .1) (c .bind .ensures) ∙ v .2)
 
-expression-end-enum-known-next-2 : (t : ℕ) → expression-end-lts.Need-enum-known-next-2 (expression-end-claims t) (expression-end-at t) expression-end.Post expression-end-Inv-loop
-    expression-end-μ-loop
-expression-end-enum-known-next-2 t c = search needs
+expression-end-enum-known-next-3 : (t : ℕ) → expression-end-lts.Need-enum-known-next-3 (expression-end-claims t) (expression-end-at t) expression-end.Post expression-end-Inv-loop expression-end-μ-loop
+expression-end-enum-known-next-3 t c = search needs
 
 expression-end-returns : (t : ℕ) → expression-end-lts.Need-returns (expression-end-claims t) (expression-end-at t) expression-end.Post expression-end-Inv-loop expression-end-μ-loop
 expression-end-returns t c =
     let at-node-end = c .before .before .before in
     let at-tag-at = at-node-end .before in
     let at-loop = at-tag-at .before in
-    expression-ended _ _ _ _ _ _ (at-tag-at .tag-at .ensures) (at-node-end .node-end .ensures) _ (c .before .next2 .given .1) ∙ at-loop .loop .inv .2
+    expression-ended _ _ _ _ _ _ (at-tag-at .tag-at .ensures) (at-node-end .node-end .ensures) _ (c .before .next3 .given .1) ∙ at-loop .loop .inv .2
 
 expression-end-enum-known-r : (t : ℕ) → expression-end-lts.Need-enum-known-r (expression-end-claims t) (expression-end-at t) expression-end.Post expression-end-Inv-loop
     expression-end-μ-loop
@@ -383,7 +402,7 @@ parts-end-part-end-requires : (t : ℕ) → parts-end-lts.Need-part-end-requires
 parts-end-part-end-requires t c κs =
     let entry = c .before .before .before .before .before in
     let q = entry .pre .0 in
-    let f = branch-fields _ _ (entry .pre .1 .1 .is) (c .before .node7 .given .1) in
+    let f = node-fields _ _ _ (sym (c .before .node7 .given .1) ∙ entry .pre .1 .1 .is) in
     (omega (arith, q, f .here, f .forward, f .inside), entry .pre .1 .0)
 
 parts-end-onward-requires : (t : ℕ) → parts-end-lts.Need-onward-requires (parts-end-claims t) (parts-end-at t) parts-end.Post
@@ -404,11 +423,11 @@ parts-end-part-end-requires-2 : (t : ℕ) → parts-end-lts.Need-part-end-requir
 parts-end-part-end-requires-2 t c κs =
     let entry = c .before .before .before .before .before .before in
     let q = entry .pre .0 in
-    let f = continuation-fields _ _ (entry .pre .1 .1 .is) (c .before .before .node8 .given .1) in
+    let f = node-fields _ _ _ (sym (c .before .before .node8 .given .1) ∙ entry .pre .1 .1 .is) in
     (omega (arith, q, f .here, f .forward, f .inside), entry .pre .1 .0)
 
-parts-end-onward-requires-2 : (t : ℕ) → parts-end-lts.Need-onward-requires-2 (parts-end-claims t) (parts-end-at t) parts-end.Post
-parts-end-onward-requires-2 t c κs = tt
+parts-end-onward-bound-requires : (t : ℕ) → parts-end-lts.Need-onward-bound-requires (parts-end-claims t) (parts-end-at t) parts-end.Post
+parts-end-onward-bound-requires t c κs = tt
 
 parts-end-enum-known-node-9 : (t : ℕ) → parts-end-lts.Need-enum-known-node-9 (parts-end-claims t) (parts-end-at t) parts-end.Post
 parts-end-enum-known-node-9 t c = search needs
@@ -417,7 +436,7 @@ parts-end-continuation-with-handler-end-requires : (t : ℕ) → parts-end-lts.N
 parts-end-continuation-with-handler-end-requires t c κs =
     let entry = c .before .before .before .before .before in
     let q = entry .pre .0 in
-    let f = tag-9-fields _ _ (entry .pre .1 .1 .is) (c .before .node9 .given .1) in
+    let f = node-fields _ _ _ (sym (c .before .node9 .given .1) ∙ entry .pre .1 .1 .is) in
     (omega (arith, q), (entry .pre .1 .0, (f .forward, f .inside)))
 
 parts-end-enum-known-node-10 : (t : ℕ) → parts-end-lts.Need-enum-known-node-10 (parts-end-claims t) (parts-end-at t) parts-end.Post
@@ -467,7 +486,7 @@ parts-end-returns-7 t c =
 parts-end-returns-8 : (t : ℕ) → parts-end-lts.Need-returns-8 (parts-end-claims t) (parts-end-at t) parts-end.Post
 parts-end-returns-8 t c =
     let at-node8 = c .before .before .before .before in
-    continuation-on _ _ _ _ _ _ _ (at-node8 .node8 .given .1) (c .onward2 .ensures) (c .before .part-end2 .ensures) (c .before .before .bind .ensures)
+    continuation-on _ _ _ _ _ _ _ (at-node8 .node8 .given .1) (c .onward-bound .ensures) (c .before .part-end2 .ensures) (c .before .before .bind .ensures)
 
 parts-end-returns-9 : (t : ℕ) → parts-end-lts.Need-returns-9 (parts-end-claims t) (parts-end-at t) parts-end.Post
 parts-end-returns-9 t c = tag-9-on _ _ _ _ _ _ (c .before .before .node9 .given .1) (c .continuation-with-handler-end .ensures)
@@ -497,7 +516,7 @@ pub +continuation-with-handler-end+expression-end+handler-end+node-end+part-end+
     (continuation-with-handler-end-part-end-requires t)
     (continuation-with-handler-end-enum-known-middle t)
     (continuation-with-handler-end-handler-end-requires t)
-    (continuation-with-handler-end-onward-requires t)
+    (continuation-with-handler-end-onward-bound-requires t)
     (continuation-with-handler-end-enum-known-r t)
     (continuation-with-handler-end-returns t)
     (continuation-with-handler-end-returns-2 t))
@@ -510,10 +529,13 @@ pub +continuation-with-handler-end+expression-end+handler-end+node-end+part-end+
     (expression-end-tag-at-requires t)
     (expression-end-node-end-requires t)
     (expression-end-enum-known-next t)
-    (expression-end-bind-requires t)
     (expression-end-loop-less t)
     (expression-end-loop-again t)
     (expression-end-enum-known-next-2 t)
+    (expression-end-bind-requires t)
+    (expression-end-loop-less-2 t)
+    (expression-end-loop-again-2 t)
+    (expression-end-enum-known-next-3 t)
     (expression-end-returns t)
     (expression-end-enum-known-r t)
     (expression-end-returns-2 t))
@@ -568,7 +590,7 @@ pub +continuation-with-handler-end+expression-end+handler-end+node-end+part-end+
     (parts-end-bind-requires t)
     (parts-end-add-part-end-2 t)
     (parts-end-part-end-requires-2 t)
-    (parts-end-onward-requires-2 t)
+    (parts-end-onward-bound-requires t)
     (parts-end-enum-known-node-9 t)
     (parts-end-continuation-with-handler-end-requires t)
     (parts-end-enum-known-node-10 t)

@@ -13,14 +13,10 @@ enum-known-part-2 : tie.Need-enum-known-part-2
 enum-known-part-2 c = search needs
 
 returns : tie.Need-returns
-returns c =
-    let entry = c .before .before .before in
-    sym (ap (onwardOf (entry .args .slot)) (c .before .part .given .1))
+returns c = sym (ap onwardOf (c .before .part .given .1))
 
 returns-2 : tie.Need-returns-2
-returns-2 c =
-    let entry = c .before .before .before in
-    sym (ap (onwardOf (entry .args .slot)) (c .before .part2 .given .1))
+returns-2 c = sym (ap onwardOf (c .before .part2 .given .1))
 
 pub onward-spec : {M : Type 1} → statement M
 onward-spec = tie.close (tie.spec enum-known-part enum-known-part-2 returns returns-2)

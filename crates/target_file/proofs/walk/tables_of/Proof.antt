@@ -1,15 +1,12 @@
-use Prim.Native.Nat.{ℕ, _-_}
-use mathlib.Core.Path.{refl, _∙_}
+-- `target_file::walk::tables_of` meets its contract.
+use Prim.Native.Nat.{_-_}
+use mathlib.Core.Path.{refl}
 use native.Mathlib.Omega.{arith}
 use borrow.Author.Needs.{needs}
-use lib.ListN.{length-replicate}
 use Rattle.target_file.specs.Check.{codeOf}
 use Rattle.target_file.specs.TablesLaws.{Turn, laid-file, turn-start, turn-head, turn-on, turn-done}
-use Rattle.target_file.proofs.tables.tables_of.Statement.{statement}
-use Rattle.target_file.proofs.tables.tables_of.Tie as tie
-use Rattle.target_file.proofs.tables.tables_of.Reads as reads
-use Rattle.target_file.proofs.tables.tables_of.Lts as lts
-use Rattle.casts.proofs.pair.Reads as pair-reads
+use Rattle.target_file.proofs.walk.tables_of.Statement.{statement}
+use Rattle.target_file.proofs.walk.tables_of.Tie as tie
 
 abbrev Inv-loop : tie.InvT-loop
 Inv-loop file n starts₀ params₀ at₀ i₀ starts params at i = Turn file (codeOf file) i at starts params
@@ -40,96 +37,61 @@ pair-requires c κs = tt
 loop-holds : tie.Need-loop-holds Inv-loop μ-loop
 loop-holds c =
     let entry = entry-before-pair c in
-    turn-start _ _ _ (entry .pre) (length-replicate {A = ℕ} 2048 0) (length-replicate {A = ℕ} 2048 0)
+    turn-start _ (entry .pre)
 
 add-body : tie.Need-add-body Inv-loop μ-loop
 add-body c =
     let entry = c .before .before .before .before .before .before in
-    let f = laid-file _ (entry .pre) in
-    let n = c .before .before .pair .ensures ∙ f .counted in
-    let m = f .most in
-    let t = c .loop-test .taken in
-    let h = turn-head _ _ _ _ _ _ (c .before .loop .inv) (omega (arith, n, t)) in
-    let z = entry .pre .fileBound in
-    omega (arith, n, h .inside, h .sized)
+    let h = turn-head (entry .pre) (c .before .before .pair .ensures) (c .before .loop .inv) (c .loop-test .taken) in
+    omega (arith, h .inside, h .sized, h .fileBound, h .counterBound)
 
 shared-slice-read-params : tie.Need-shared-slice-read-params Inv-loop μ-loop
 shared-slice-read-params c =
     let at-loop = c .before .before in
     let at-pair = at-loop .before in
     let entry = entry-before-pair at-pair in
-    let f = laid-file _ (entry .pre) in
-    let n = at-pair .pair .ensures ∙ f .counted in
-    let m = f .most in
-    let t = c .before .loop-test .taken in
-    let h = turn-head _ _ _ _ _ _ (at-loop .loop .inv) (omega (arith, n, t)) in
-    let z = entry .pre .fileBound in
-    omega (arith, n, h .inside, h .sized)
+    let h = turn-head (entry .pre) (at-pair .pair .ensures) (at-loop .loop .inv) (c .before .loop-test .taken) in
+    omega (arith, h .inside, h .sized, h .fileBound, h .counterBound)
 
 array-write-params : tie.Need-array-write-params Inv-loop μ-loop
 array-write-params c =
     let at-loop = c .before .before in
     let at-pair = at-loop .before in
     let entry = entry-before-pair at-pair in
-    let f = laid-file _ (entry .pre) in
-    let n = at-pair .pair .ensures ∙ f .counted in
-    let m = f .most in
-    let t = c .before .loop-test .taken in
-    let h = turn-head _ _ _ _ _ _ (at-loop .loop .inv) (omega (arith, n, t)) in
-    let z = entry .pre .fileBound in
-    omega (arith, n, h .inside, h .sized)
+    let h = turn-head (entry .pre) (at-pair .pair .ensures) (at-loop .loop .inv) (c .before .loop-test .taken) in
+    omega (arith, h .inside, h .sized, h .fileBound, h .counterBound)
 
 cast-starts : tie.Need-cast-starts Inv-loop μ-loop
 cast-starts c =
     let at-loop = c .before .before in
     let at-pair = at-loop .before in
     let entry = entry-before-pair at-pair in
-    let f = laid-file _ (entry .pre) in
-    let n = at-pair .pair .ensures ∙ f .counted in
-    let m = f .most in
-    let t = c .before .loop-test .taken in
-    let h = turn-head _ _ _ _ _ _ (at-loop .loop .inv) (omega (arith, n, t)) in
-    let z = entry .pre .fileBound in
-    omega (arith, n, h .inside, h .sized)
+    let h = turn-head (entry .pre) (at-pair .pair .ensures) (at-loop .loop .inv) (c .before .loop-test .taken) in
+    omega (arith, h .inside, h .sized, h .fileBound, h .counterBound)
 
 mul-starts : tie.Need-mul-starts Inv-loop μ-loop
 mul-starts c =
     let at-loop = c .before .before in
     let at-pair = at-loop .before in
     let entry = entry-before-pair at-pair in
-    let f = laid-file _ (entry .pre) in
-    let n = at-pair .pair .ensures ∙ f .counted in
-    let m = f .most in
-    let t = c .before .loop-test .taken in
-    let h = turn-head _ _ _ _ _ _ (at-loop .loop .inv) (omega (arith, n, t)) in
-    let z = entry .pre .fileBound in
-    omega (arith, n, h .inside, h .sized)
+    let h = turn-head (entry .pre) (at-pair .pair .ensures) (at-loop .loop .inv) (c .before .loop-test .taken) in
+    omega (arith, h .inside, h .sized, h .fileBound, h .counterBound)
 
 array-write-starts : tie.Need-array-write-starts Inv-loop μ-loop
 array-write-starts c =
     let at-loop = c .before .before in
     let at-pair = at-loop .before in
     let entry = entry-before-pair at-pair in
-    let f = laid-file _ (entry .pre) in
-    let n = at-pair .pair .ensures ∙ f .counted in
-    let m = f .most in
-    let t = c .before .loop-test .taken in
-    let h = turn-head _ _ _ _ _ _ (at-loop .loop .inv) (omega (arith, n, t)) in
-    let z = entry .pre .fileBound in
-    omega (arith, n, h .inside, h .sized)
+    let h = turn-head (entry .pre) (at-pair .pair .ensures) (at-loop .loop .inv) (c .before .loop-test .taken) in
+    omega (arith, h .inside, h .sized, h .fileBound, h .counterBound)
 
 add-field : tie.Need-add-field Inv-loop μ-loop
 add-field c =
     let at-loop = c .before .before in
     let at-pair = at-loop .before in
     let entry = entry-before-pair at-pair in
-    let f = laid-file _ (entry .pre) in
-    let n = at-pair .pair .ensures ∙ f .counted in
-    let m = f .most in
-    let t = c .before .loop-test .taken in
-    let h = turn-head _ _ _ _ _ _ (at-loop .loop .inv) (omega (arith, n, t)) in
-    let z = entry .pre .fileBound in
-    omega (arith, n, h .inside, h .sized)
+    let h = turn-head (entry .pre) (at-pair .pair .ensures) (at-loop .loop .inv) (c .before .loop-test .taken) in
+    omega (arith, h .inside, h .sized, h .fileBound, h .counterBound)
 
 shared-slice-read-pair-3 : tie.Need-shared-slice-read-pair-3 Inv-loop μ-loop
 shared-slice-read-pair-3 c =
@@ -137,13 +99,8 @@ shared-slice-read-pair-3 c =
     let at-loop = at-loop-test .before in
     let at-pair = at-loop .before in
     let entry = entry-before-pair at-pair in
-    let f = laid-file _ (entry .pre) in
-    let n = at-pair .pair .ensures ∙ f .counted in
-    let m = f .most in
-    let t = at-loop-test .loop-test .taken in
-    let h = turn-head _ _ _ _ _ _ (at-loop .loop .inv) (omega (arith, n, t)) in
-    let z = entry .pre .fileBound in
-    omega (arith, n, h .inside, h .sized)
+    let h = turn-head (entry .pre) (at-pair .pair .ensures) (at-loop .loop .inv) (at-loop-test .loop-test .taken) in
+    omega (arith, h .inside, h .sized, h .fileBound, h .counterBound)
 
 add-pair : tie.Need-add-pair Inv-loop μ-loop
 add-pair c =
@@ -151,13 +108,8 @@ add-pair c =
     let at-loop = at-loop-test .before in
     let at-pair = at-loop .before in
     let entry = entry-before-pair at-pair in
-    let f = laid-file _ (entry .pre) in
-    let n = at-pair .pair .ensures ∙ f .counted in
-    let m = f .most in
-    let t = at-loop-test .loop-test .taken in
-    let h = turn-head _ _ _ _ _ _ (at-loop .loop .inv) (omega (arith, n, t)) in
-    let z = entry .pre .fileBound in
-    omega (arith, n, h .inside, h .sized)
+    let h = turn-head (entry .pre) (at-pair .pair .ensures) (at-loop .loop .inv) (at-loop-test .loop-test .taken) in
+    omega (arith, h .inside, h .sized, h .fileBound, h .counterBound)
 
 shared-slice-read-pair-4 : tie.Need-shared-slice-read-pair-4 Inv-loop μ-loop
 shared-slice-read-pair-4 c =
@@ -165,13 +117,8 @@ shared-slice-read-pair-4 c =
     let at-loop = at-loop-test .before in
     let at-pair = at-loop .before in
     let entry = entry-before-pair at-pair in
-    let f = laid-file _ (entry .pre) in
-    let n = at-pair .pair .ensures ∙ f .counted in
-    let m = f .most in
-    let t = at-loop-test .loop-test .taken in
-    let h = turn-head _ _ _ _ _ _ (at-loop .loop .inv) (omega (arith, n, t)) in
-    let z = entry .pre .fileBound in
-    omega (arith, n, h .inside, h .sized)
+    let h = turn-head (entry .pre) (at-pair .pair .ensures) (at-loop .loop .inv) (at-loop-test .loop-test .taken) in
+    omega (arith, h .inside, h .sized, h .fileBound, h .counterBound)
 
 pair-requires-2 : tie.Need-pair-requires-2 Inv-loop μ-loop
 pair-requires-2 c κs = tt
@@ -182,14 +129,9 @@ add-at c =
     let at-loop = at-loop-test .before in
     let at-pair = at-loop .before in
     let entry = entry-before-pair at-pair in
-    let f = laid-file _ (entry .pre) in
-    let n = at-pair .pair .ensures ∙ f .counted in
-    let m = f .most in
-    let t = at-loop-test .loop-test .taken in
-    let h = turn-head _ _ _ _ _ _ (at-loop .loop .inv) (omega (arith, n, t)) in
-    let z = entry .pre .fileBound in
+    let h = turn-head (entry .pre) (at-pair .pair .ensures) (at-loop .loop .inv) (at-loop-test .loop-test .taken) in
     let p = c .pair2 .ensures in
-    omega (arith, n, h .inside, h .sized, p)
+    omega (arith, h .inside, h .sized, h .fileBound, h .counterBound, p)
 
 add-i : tie.Need-add-i Inv-loop μ-loop
 add-i c = search needs
@@ -203,18 +145,12 @@ loop-again c =
     let at-loop = at-loop-test .before in
     let at-pair = at-loop .before in
     let entry = entry-before-pair at-pair in
-    let f = laid-file _ (entry .pre) in
-    let n = at-pair .pair .ensures ∙ f .counted in
-    let m = f .most in
-    let t = at-loop-test .loop-test .taken in
-    turn-on _ _ _ _ _ _ (at-loop .loop .inv) (omega (arith, n, t)) m _ _ _ _ refl (c .pair2 .ensures) refl refl
+    turn-on (entry .pre) (at-pair .pair .ensures) (at-loop .loop .inv) (at-loop-test .loop-test .taken) refl (c .pair2 .ensures) refl refl
 
 returns : tie.Need-returns Inv-loop μ-loop
 returns c =
     let entry = c .before .before .before .before .before .before in
-    let f = laid-file _ (entry .pre) in
-    let n = c .before .before .pair .ensures ∙ f .counted in
-    turn-done _ _ _ _ _ (c .before .loop .inv) (omega (arith, n, c .loop-test .left))
+    turn-done (entry .pre) (c .before .before .pair .ensures) (c .before .loop .inv) (c .loop-test .left)
 
 pub tables-of-spec : {M : Type 1} → statement M
 tables-of-spec =

@@ -1,16 +1,12 @@
+-- `target_file::check::names_loaded` meets its contract.
 use mathlib.Core.Path.{refl, sym, _∙_}
 use native.Mathlib.Omega.{arith}
 use Rattle.target_file.specs.TablesLaws.{laid-file}
 use Rattle.target_file.specs.CheckLaws.{names-past, names-stop}
 use lib.Seq.{length-take-le}
 use borrow.Author.Needs.{needs}
-use Rattle.target_file.proofs.check.names_checked.Statement.{statement}
-use Rattle.target_file.proofs.check.names_checked.Tie as tie
-use Rattle.target_file.proofs.check.names_checked.Reads as reads
-use Rattle.target_file.proofs.check.names_checked.Lts as lts
-use Rattle.target_layout.proofs.layout.code_end.Reads as code-end-reads
-use Rattle.target_file.proofs.tables.tables_of.Reads as tables-of-reads
-use Rattle.casts.proofs.pair.Reads as pair-reads
+use Rattle.target_file.proofs.check.names_loaded.Statement.{statement}
+use Rattle.target_file.proofs.check.names_loaded.Tie as tie
 
 -- Ways back to earlier places that several answers take.
 abbrev tables-of-before-pair : tie.After-pair → tie.After-tables-of
@@ -67,23 +63,29 @@ enum-known-r c = search needs
 
 returns : tie.Need-returns
 returns c =
-    let at-pair = c .before .before .before .before in
+    let at-enum-told = c .before in
+    let at-code-end = at-enum-told .before .before in
+    let at-pair = at-code-end .before .before in
     let at-tables-of = tables-of-before-pair at-pair in
-    let entry = at-tables-of .before .before in
-    names-past _ _ _ _ (at-pair .pair .ensures ∙ laid-file _ (entry .pre) .counted) refl (at-tables-of .tables-of .ensures .counts) _
-    (sym (c .before .before .code-end .ensures) ∙ c .enum-told .given .1)
+    let entry = at-tables-of .before .before in (
+      names-past _ _ _ _ (at-pair .pair .ensures ∙ laid-file _ (entry .pre) .counted) refl (at-tables-of .tables-of .ensures .counts) _
+          (sym (at-code-end .code-end .ensures) ∙ at-enum-told .enum-told .given .1),
+      at-tables-of .tables-of .ensures .bodies,
+    )
 
 returns-2 : tie.Need-returns-2
 returns-2 c =
     let at-code-end = c .before .before .before in
     let at-pair = at-code-end .before .before in
     let at-tables-of = tables-of-before-pair at-pair in
-    let entry = at-tables-of .before .before in
-    names-stop _ _ _ _ (at-pair .pair .ensures ∙ laid-file _ (entry .pre) .counted) refl (at-tables-of .tables-of .ensures .counts) _
-    (sym (at-code-end .code-end .ensures) ∙ c .before .r .given .1)
+    let entry = at-tables-of .before .before in (
+      names-stop _ _ _ _ (at-pair .pair .ensures ∙ laid-file _ (entry .pre) .counted) refl (at-tables-of .tables-of .ensures .counts) _
+          (sym (at-code-end .code-end .ensures) ∙ c .before .r .given .1),
+      refl,
+    )
 
-pub names-checked-spec : {M : Type 1} → statement M
-names-checked-spec =
+pub names-loaded-spec : {M : Type 1} → statement M
+names-loaded-spec =
     tie.close
     (tie.spec
     tables-of-requires

@@ -1,6 +1,5 @@
-// The tables of an accepted layout, filled once: where the functions' bodies stand, and their numbers of parameters.
+// A walk over the functions of a file whose layout is whole: where their bodies stand, and their numbers of parameters.
 use casts::pair;
-ghost use mathlib.Core.Path.{_≡_};
 ghost use Rattle.target_file.specs.Tables.{LaidOut, Tabled};
 
 pub struct Tables {
