@@ -1,107 +1,100 @@
 -- What a call of the bench tells, and what the lent words then hold.
-use Prim.Native.Nat.{ℕ, _*_, _-_, _≤_}
+use Prim.Native.Nat.{ℕ, _*_, _≤_, _<_}
 use mathlib.Core.Path.{_≡_}
-use mathlib.Core.List.{List, [], _++_}
+use mathlib.Core.List.{List}
 use lib.IntN.{ℤ, pos}
-use lib.ListN.{length, drop, replicate}
-use Rattle.semantics.specs.Program.{functionOf}
-use Rattle.semantics.specs.Run.{End, value, uncaught, Stop, ended, spent, deep, broken, Result, told}
+use lib.ListN.{length, replicate}
+use Rattle.semantics.specs.Program.{FunctionNumber, functionOf}
+use Rattle.semantics.specs.Run.{Result}
 use Rattle.semantics.specs.Bench.{Frame, State, state, bench}
 use Rattle.semantics.specs.Extras.{extras}
-use Rattle.parsing.specs.declared.Checked.{Checked}
-use Rattle.parsing.specs.declared.Checked.the-variants.{Accepted, Refused}
-use Rattle.parsing.specs.Parser.{Verdict, accepted, refused, orElse}
+use Rattle.parsing.specs.declared.Refusal.{Refusal}
+use Rattle.parsing.specs.declared.Checked.the-variants.{Refused}
+use Rattle.parsing.specs.Parser.{Verdict, verdictOf, orElse}
 use Rattle.memory.specs.Call.{callVerdict}
+use Rattle.memory.specs.Frame.{frameAt}
+use Rattle.runs.specs.declared.Stopped.the-variants.{Spent}
+use Rattle.runs.specs.Stopped.{stoppedAs}
+use Rattle.runs.specs.Tells.{Tells, tells, tellsBy, toldOf, ChangedBy}
+use Rattle.runs.specs.Words.{WordsAfter}
 use Rattle.procedure_file.specs.Check.{checkOf, programOf}
-use Rattle.bench_step.specs.declared.step.Regs.{Regs}
-use Rattle.bench.specs.declared.machine.Stopped.{Stopped}
-use Rattle.bench.specs.declared.machine.Stopped.the-variants.{Value, Uncaught, Spent, Deep}
+use Rattle.procedure_file.specs.FileInvariant.{Stands}
+use Rattle.bench_step.specs.Machine.{framesOf, stateOf, FrameStands}
 use Rattle.bench.specs.declared.machine.Answer.{Answer}
-use Rattle.bench_step.specs.Machine.{framesOf, stateOf}
-use Rattle.bench_step.specs.MachineTables.{functionAt}
+use Rattle.bench.specs.RunResult.{zeroRegs, ZeroAtEnd}
 
--- A refusal's number and place; or how the run stopped, the steps taken, the extras.
-pub data Tells : Type 0 where
-  refuses : ℕ → ℕ → Tells
-  tells : Stop (Unit {0}) → ℕ → ℕ → Tells
+-- What an accepted call tells: how the run stopped and the steps taken, and the extras.
+pub record Told : Type 0 where
+  pub result : Result (Unit {0})
+  pub extras : ℕ
 
 -- What an answer says.
-abbrev pub stoppedAs : Stopped → Stop (Unit {0})
-stoppedAs (Value z) = ended (value z)
-stoppedAs Uncaught = ended uncaught
-stoppedAs Spent = spent tt
-stoppedAs Deep = deep tt
+abbrev pub saidBy : Answer → Told
+saidBy a = record { result = record { stop = stoppedAs (a .stopped); steps = a .steps }; extras = a .extras }
 
-abbrev pub saidOf : Checked → Stopped → ℕ → ℕ → Tells
-saidOf Accepted x steps extra = tells (stoppedAs x) steps extra
-saidOf (Refused r) x steps extra = refuses (r .number) (r .place)
+abbrev pub toldBy : Answer → Tells Told
+toldBy a = tellsBy (verdictOf (a .verdict)) (saidBy a)
 
-abbrev pub toldBy : Answer → Tells
-toldBy a = saidOf (a .verdict) (a .stopped) (a .steps) (a .extras)
+-- The rules' run from function f of the program that the file is, and what it tells.
+abbrev pub runOf : List ℕ → FunctionNumber → List ℤ → ℕ → ℕ → Result State
+runOf s f args depth budget = bench (programOf s) f args depth budget
 
--- The file's own checks, then 14, then 16.
-unfoldable pub benchVerdict : List ℕ → ℕ → ℕ → ℕ → Verdict
-benchVerdict s given depth words = orElse (checkOf s) (callVerdict given (functionOf (programOf s) 0 .params) depth words)
+abbrev pub runTells : List ℕ → FunctionNumber → List ℤ → ℕ → ℕ → Told
+runTells s f args depth budget = record { result = toldOf (runOf s f args depth budget); extras = extras (programOf s) f args depth budget }
 
-abbrev pub tellsBy : Verdict → Result State → ℕ → Tells
-tellsBy accepted b x = tells (told (b .stop)) (b .steps) x
-tellsBy (refused n p) b x = refuses n p
+-- The file's own checks, then 14, then 16, where the run is to start at function f.
+unfoldable pub benchVerdict : List ℕ → FunctionNumber → ℕ → ℕ → ℕ → Verdict
+benchVerdict s f given depth words = orElse (checkOf s) (callVerdict given (functionOf (programOf s) f .params) depth words)
 
--- What the bench tells of a file, its arguments, a depth limit, a budget and so many lent words: the rules' run of the program that
--- the file is, from main.
-unfoldable pub benchTells : List ℕ → List ℤ → ℕ → ℕ → ℕ → Tells
-benchTells s args depth budget words =
-    tellsBy (benchVerdict s (length args) depth words) (bench (programOf s) 0 args depth budget) (extras (programOf s) 0 args depth budget)
+-- What the bench tells of a file, the function that it starts at, its arguments, a depth limit, a budget and so many lent words.
+unfoldable pub benchTells : List ℕ → FunctionNumber → List ℤ → ℕ → ℕ → ℕ → Tells Told
+benchTells s f args depth budget words = tellsBy (benchVerdict s f (length args) depth words) (runTells s f args depth budget)
 
--- The frames waiting where a run stopped.
+-- The frames waiting in a state.
 abbrev pub framesIn : State → List Frame
 framesIn (state f h b vs fs) = fs
 
-abbrev pub framesLeft : Stop State → List Frame
-framesLeft (ended e) = []
-framesLeft (spent S) = framesIn S
-framesLeft (deep S) = framesIn S
-framesLeft (broken S) = framesIn S
+-- A stopped run's current state S: registers, variables and words stand for it. The four numbers of each waiting frame have no sign; at its
+-- offset, as at that in the registers, the operations left of a block stand, well-formed in its function. Left open, where the function has
+-- V variables: words 4 + V to 47 of a waiting frame, and `vars` from V on.
+pub record StateGiven (s : List ℕ) (a : Answer) (words : List ℤ) (S : State) : Type 0 where
+  pub is : stateOf s (a .regs) (a .vars) words ≡ S
+  pub here : Stands s (a .regs .function) (a .regs .at)
+  pub frames : (d : ℕ) → d < a .regs .waiting → FrameStands s (frameAt d words)
+  pub extras : a .regs .extras ≡ a .extras
 
--- A stopped run gives its current state too: registers, variables and words stand for it.
-abbrev pub GivesState : List ℕ → Stop State → Regs → List ℤ → List ℤ → Type 0
-GivesState s (ended e) r vs words = Unit {0}
-GivesState s (spent S) r vs words = stateOf s r vs words ≡ S
-GivesState s (deep S) r vs words = stateOf s r vs words ≡ S
-GivesState s (broken S) r vs words = stateOf s r vs words ≡ S
+-- The words after the run from function f hold the frames left; a stopped run's state is given, and at an end registers and variables are 0.
+abbrev pub RunWords : List ℕ → FunctionNumber → List ℤ → ℕ → ℕ → Answer → List ℤ → List ℤ → Type 0
+RunWords s f args depth budget a words words′ =
+    WordsAfter framesIn (λ fs. framesOf s words′ (length fs) ≡ fs) (ZeroAtEnd (a .extras) (a .regs) (a .vars)) (StateGiven s a words′) depth
+    (runOf s f args depth budget .stop) words words′
 
--- "After a run, frames not waiting are zero words; at an end all are. Words past 48 × depth .. keep what they held."
-pub record WordsAfter (s : List ℕ) (depth : ℕ) (stop : Stop State) (r : Regs) (vs words words′ : List ℤ) : Type 0 where
-  pub waiting : framesOf s words′ (length (framesLeft stop)) ≡ framesLeft stop
-  pub others : drop (48 * length (framesLeft stop)) words′ ≡ replicate (48 * depth - 48 * length (framesLeft stop)) (pos 0) ++ drop (48 * depth) words
-  pub current : GivesState s stop r vs words′
-  pub sameLength : length words′ ≡ length words
+abbrev pub BenchWords : List ℕ → FunctionNumber → List ℤ → ℕ → ℕ → Answer → List ℤ → List ℤ → Type 0
+BenchWords s f args depth budget a words words′ =
+    ChangedBy (benchVerdict s f (length args) depth (length words)) (RunWords s f args depth budget a words words′) words words′
 
--- A refusal changes no lent word.
-abbrev pub WordsBy : Verdict → List ℕ → ℕ → Stop State → Regs → List ℤ → List ℤ → List ℤ → Type 0
-WordsBy accepted s depth stop r vs words words′ = WordsAfter s depth stop r vs words words′
-WordsBy (refused n p) s depth stop r vs words words′ = words′ ≡ words
+-- The answer of a refused call: nothing was run.
+abbrev pub refusedAnswer : Refusal → Answer
+refusedAnswer r =
+    record {
+      verdict = Refused r;
+      stopped = Spent;
+      steps = 0;
+      extras = 0;
+      regs = zeroRegs 0;
+      vars = replicate 32 (pos 0);
+    }
 
-abbrev pub BenchWords : List ℕ → List ℤ → ℕ → ℕ → Answer → List ℤ → List ℤ → Type 0
-BenchWords s args depth budget a words words′ =
-    WordsBy (benchVerdict s (length args) depth (length words)) s depth (bench (programOf s) 0 args depth budget .stop) (a .regs) (a .vars) words words′
+-- ── What the run of a loaded file is asked, and what it gives ───────────────────────────────────
 
--- ── What the run behind a call is asked, and what it gives ──────────────────────────────────────
-
--- How many frames wait where a run stopped.
-abbrev pub leftWaiting : Stopped → ℕ → ℕ
-leftWaiting (Value z) w = 0
-leftWaiting Uncaught w = 0
-leftWaiting Spent w = w
-leftWaiting Deep w = w
-
--- What an accepted call gives: arguments, depth and words that fit.
-pub record CallFits (s : List ℕ) (args : List ℤ) (depth : ℕ) (words : List ℤ) : Type 0 where
-  pub arguments : length args ≡ functionAt s 0 .params
+-- What an accepted call gives: a function that exists, arguments, depth and words that fit.
+pub record CallFits (s : List ℕ) (f : FunctionNumber) (args : List ℤ) (depth : ℕ) (words : List ℤ) : Type 0 where
+  pub exists : f < length (programOf s)
+  pub arguments : length args ≡ functionOf (programOf s) f .params
   pub depthBound : depth ≤ 256
   pub room : 48 * depth ≤ length words
 
--- The answer of a run.
-pub record RunAnswered (s : List ℕ) (args : List ℤ) (depth budget : ℕ) (a : Answer) (words words′ : List ℤ) : Type 0 where
-  pub said : toldBy a ≡ tells (told (bench (programOf s) 0 args depth budget .stop)) (bench (programOf s) 0 args depth budget .steps) (extras (programOf s) 0 args depth budget)
-  pub held : WordsAfter s depth (bench (programOf s) 0 args depth budget .stop) (a .regs) (a .vars) words words′
+-- The answer of a run from function f.
+pub record RunAnswered (s : List ℕ) (f : FunctionNumber) (args : List ℤ) (depth budget : ℕ) (a : Answer) (words words′ : List ℤ) : Type 0 where
+  pub said : toldBy a ≡ tells (runTells s f args depth budget)
+  pub held : RunWords s f args depth budget a words words′

@@ -2,37 +2,39 @@
 use Prim.Native.Nat.{ℕ, _+_, _*_}
 use mathlib.Core.Path.{_≡_}
 use mathlib.Core.List.{List}
-use lib.IntN.{ℤ}
-use lib.ListN.{length, drop}
-use Rattle.semantics.specs.Run.{End, value, uncaught, Stop, ended, spent, deep, Result, run, total}
+use lib.IntN.{ℤ, pos}
+use lib.ListN.{length, drop, replicate}
+use Rattle.semantics.specs.Run.{Stop, run, total}
 use Rattle.semantics.specs.Bench.{State, step}
 use Rattle.semantics.specs.Extras.{extra}
+use Rattle.runs.specs.Stopped.{stoppedAs}
+use Rattle.runs.specs.Tells.{toldOf}
+use Rattle.runs.specs.Words.{GivesState}
 use Rattle.procedure_file.specs.Check.{programOf}
 use Rattle.bench_step.specs.declared.step.Regs.{Regs}
-use Rattle.bench.specs.declared.machine.Stopped.{Stopped}
-use Rattle.bench.specs.declared.machine.Stopped.the-variants.{Value, Uncaught, Spent, Deep}
-use Rattle.bench.specs.declared.machine.Ran.{Ran}
 use Rattle.bench_step.specs.Machine.{stateOf, Invariant}
+use Rattle.bench.specs.declared.machine.Ran.{Ran}
 
--- How the rules' run stopped, by the machine's answer: a stopped run's registers, variables and words stand for its state.
-abbrev pub stopOf : List ℕ → Stopped → Regs → List ℤ → List ℤ → Stop State
-stopOf s (Value z) r vs words = ended (value z)
-stopOf s Uncaught r vs words = ended uncaught
-stopOf s Spent r vs words = spent (stateOf s r vs words)
-stopOf s Deep r vs words = deep (stateOf s r vs words)
+-- The machine is in a state from which it can go on.
+abbrev pub Reached : List ℕ → ℕ → Regs → List ℤ → List ℤ → State → Type 0
+Reached s limit r vs words S = (stateOf s r vs words ≡ S) × Invariant s limit r vs words
 
--- A stopped run can go on.
-abbrev pub CanGoOn : List ℕ → ℕ → Stopped → Regs → List ℤ → List ℤ → Type 0
-CanGoOn s limit (Value z) r vs words = Unit {0}
-CanGoOn s limit Uncaught r vs words = Unit {0}
-CanGoOn s limit Spent r vs words = Invariant s limit r vs words
-CanGoOn s limit Deep r vs words = Invariant s limit r vs words
+-- Registers that stand for no state: all 0, but the extras.
+abbrev pub zeroRegs : ℕ → Regs
+zeroRegs extras = record { function = 0; handler = 0; at = 0; waiting = 0; extras = extras }
 
--- Going on from a state with a budget: the rules' run from there.
+-- Registers and variables at an end: all 0, but the extras.
+abbrev pub ZeroAtEnd : ℕ → Regs → List ℤ → Type 0
+ZeroAtEnd extras r vs = (r ≡ zeroRegs extras) × (vs ≡ replicate 32 (pos 0))
+
+-- Where the machine stopped: at an end all is 0; else the current state is reached.
+abbrev pub StoppedAt : List ℕ → ℕ → Regs → List ℤ → List ℤ → Stop State → Type 0
+StoppedAt s limit r vs words stop = GivesState (ZeroAtEnd (r .extras) r vs) (Reached s limit r vs words) stop
+
+-- Going on from a state with a budget: the rules' run from there, as the machine says. "A stopped run gives its current state too."
 pub record RunResult (s : List ℕ) (limit budget : ℕ) (r : Regs) (vs words : List ℤ) (x : Ran) (vs′ words′ : List ℤ) : Type 0 where
-  pub stop : run (step (programOf s) limit) budget (stateOf s r vs words) .stop ≡ stopOf s (x .stopped) (x .regs) vs′ words′
-  pub steps : run (step (programOf s) limit) budget (stateOf s r vs words) .steps ≡ x .steps
+  pub tells : toldOf (run (step (programOf s) limit) budget (stateOf s r vs words)) ≡ record { stop = stoppedAs (x .stopped); steps = x .steps }
+  pub state : StoppedAt s limit (x .regs) vs′ words′ (run (step (programOf s) limit) budget (stateOf s r vs words) .stop)
   pub extras : r .extras + total (step (programOf s) limit) (extra (programOf s)) budget (stateOf s r vs words) ≡ x .regs .extras
-  pub held : CanGoOn s limit (x .stopped) (x .regs) vs′ words′
   pub kept : drop (48 * limit) words′ ≡ drop (48 * limit) words
   pub sameLength : length words′ ≡ length words

@@ -1,42 +1,43 @@
 -- The loop of the bench: what is left to run, as the code has it.
-use Prim.Native.Nat.{ℕ, zero, suc, _+_, _*_, _-_, _≤_, _<_}
+use Prim.Native.Nat.{ℕ, suc, _+_, _*_, _-_, _≤_, _<_}
 use native.Mathlib.Omega.{arith}
 use native.Mathlib.Nat.{add-assoc, add-zero}
 use mathlib.Core.Path.{_≡_, refl, sym, ap, _∙_, subst}
 use mathlib.Core.Bool.{Bool, true, false}
 use mathlib.Core.List.{List}
-use lib.IntN.{ℤ}
+use lib.IntN.{ℤ, pos}
 use lib.Dec.{ltb}
-use lib.ListN.{length, drop, List·getD-eq-default}
+use lib.ListN.{length, drop, replicate, List·getD-eq-default}
 use borrow.Author.Tests.{ltb-true, ltb-false}
 use Rattle.semantics.specs.Program.{Function, noFunction}
-use Rattle.semantics.specs.Run.{End, value, uncaught, Outcome, next, end, tooDeep, stuck, Stop, ended, spent, deep, Result, after, taken, added, run, total}
+use Rattle.semantics.specs.Run.{Outcome, next, end, tooDeep, ended, spent, deep, Result, after, taken, added, run, total}
 use Rattle.semantics.specs.Bench.{State, step}
 use Rattle.semantics.specs.Extras.{extra}
 use Rattle.semantics.specs.RunLaws.{after-zero, after-after}
 use Rattle.semantics.specs.StopLaws.{extra-bound}
+use Rattle.runs.specs.declared.End.{End}
+use Rattle.runs.specs.declared.Stopped.the-variants as Stopped
+use Rattle.runs.specs.Stopped.{endAs}
+use Rattle.runs.specs.Tells.{toldOf}
 use Rattle.procedure_file.specs.Check.{programOf}
+use Rattle.procedure_file.specs.FileInvariant.{FileInvariant}
 use Rattle.bench_step.specs.declared.step.Regs.{Regs}
 use Rattle.bench_step.specs.declared.step.Step.{Step}
-use Rattle.bench_step.specs.declared.step.Step.the-variants.{Next, Value, Uncaught, Deep}
-use Rattle.bench.specs.declared.machine.Stopped.{Stopped}
-use Rattle.bench.specs.declared.machine.Stopped.the-variants as S
-use Rattle.bench.specs.declared.machine.Ran.{Ran}
-use Rattle.bench_step.specs.MachineTables.{functionAt, MachineTables}
-use Rattle.bench_step.specs.Machine.{stateOf, Invariant, StepResult}
-use Rattle.bench.specs.RunResult.{RunResult}
+use Rattle.bench_step.specs.declared.step.Step.the-variants.{Next, Ended, Deep}
+use Rattle.bench_step.specs.Machine.{functionAt, stateOf, Invariant, StepResult}
+use Rattle.bench.specs.RunResult.{zeroRegs, Reached, StoppedAt, RunResult}
 
 -- No function has more than 24 locals; one that is not there has none.
-locals-bound : {s starts handlers params locals : List ℕ} → MachineTables s starts handlers params locals → (g : ℕ) → functionAt s g .locals ≤ 24
-locals-bound {s} L g = by (ltb g (length (programOf s))) refl
+locals-bound : {s : List ℕ} → FileInvariant s → (g : ℕ) → functionAt s g .locals ≤ 24
+locals-bound {s} F g = by (ltb g (length (programOf s))) refl
   where
     by : (c : Bool) → ltb g (length (programOf s)) ≡ c → functionAt s g .locals ≤ 24
-    by true e = L .localsBound g (ltb-true g (length (programOf s)) e)
-    by false e = subst (λ (F : Function). F .locals ≤ 24) (sym (List·getD-eq-default (programOf s) noFunction (ltb-false g (length (programOf s)) e))) (omega arith)
+    by true e = F .counts g (ltb-true g (length (programOf s)) e) .locals
+    by false e = subst (λ (G : Function). G .locals ≤ 24) (sym (List·getD-eq-default (programOf s) noFunction (ltb-false g (length (programOf s)) e))) (omega arith)
 
 -- A step has at most 25 extras.
-extra-small : {s starts handlers params locals : List ℕ} → MachineTables s starts handlers params locals → (S : State) → extra (programOf s) S ≤ 25
-extra-small {s} L S = extra-bound (programOf s) 24 (locals-bound L) S
+extra-small : {s : List ℕ} → FileInvariant s → (S : State) → extra (programOf s) S ≤ 25
+extra-small {s} F S = extra-bound (programOf s) 24 (locals-bound F) S
 
 -- After n steps of a run with budget b that began at r₀, vs₀, words₀.
 pub record Turn (s : List ℕ) (limit b : ℕ) (r₀ : Regs) (vs₀ words₀ : List ℤ) (n : ℕ) (r : Regs) (vs words : List ℤ) : Type 0 where
@@ -61,7 +62,7 @@ turn-start {s} {limit} {b} {r} {vs} {words} H =
       sameLength = refl;
     }
 
-module _ {s starts handlers params locals : List ℕ} (L : MachineTables s starts handlers params locals) {limit b : ℕ} {r₀ : Regs} {vs₀ words₀ : List ℤ} {n : ℕ} {r : Regs} {vs words : List ℤ} (T : Turn s limit b r₀ vs₀ words₀ n r vs words) where
+module _ {s : List ℕ} (F : FileInvariant s) {limit b : ℕ} {r₀ : Regs} {vs₀ words₀ : List ℤ} {n : ℕ} {r : Regs} {vs words : List ℤ} (T : Turn s limit b r₀ vs₀ words₀ n r vs words) where
   abbrev now : State
   now = stateOf s r vs words
 
@@ -81,57 +82,46 @@ module _ {s starts handlers params locals : List ℕ} (L : MachineTables s start
 
     pub turn-next : {q : Regs} {vs′ words′ : List ℤ} → StepResult s limit r vs words (Next q) vs′ words′ → Turn s limit b r₀ vs₀ words₀ (n + 1) q vs′ words′
     turn-next {q} {vs′} {words′} D =
-        let e : extra (programOf s) now ≤ 25 = extra-small L now in
+        let e : extra (programOf s) now ≤ 25 = extra-small F now in
         let m : r .extras ≤ r₀ .extras + 25 * n = T .small in
         let x : q .extras ≡ r .extras + extra (programOf s) now = D .held .1 in
         record {
           held = D .held .0;
           stepBound = omega arith;
           left = T .left ∙ (ap (λ (y : Result State). after n y) (run-is (next (stateOf s q vs′ words′)) (sym (D .outcome))) ∙ after-after n 1 (run (step (programOf s) limit) (b - (n + 1)) (stateOf s q vs′ words′)));
-          sum = T .sum ∙ (ap (λ (k : ℕ). r .extras + k) (total-is (next (stateOf s q vs′ words′)) (sym (D .outcome))) ∙ (sym (add-assoc (r .extras) (extra (programOf s) now) (total (step (programOf s) limit) (extra (programOf s)) (b - (n + 1)) (stateOf s q vs′ words′))) ∙ ap (λ (k : ℕ). k + total (step (programOf s) limit) (extra (programOf s)) (b - (n + 1)) (stateOf s q vs′ words′)) (sym x)));
+          sum =
+              T .sum
+              ∙ (ap (λ (k : ℕ). r .extras + k) (total-is (next (stateOf s q vs′ words′)) (sym (D .outcome)))
+              ∙ (sym (add-assoc (r .extras) (extra (programOf s) now) (total (step (programOf s) limit) (extra (programOf s)) (b - (n + 1)) (stateOf s q vs′ words′)))
+              ∙ ap (λ (k : ℕ). k + total (step (programOf s) limit) (extra (programOf s)) (b - (n + 1)) (stateOf s q vs′ words′)) (sym x)));
           small = omega arith;
           kept = D .kept ∙ T .kept;
           sameLength = D .sameLength ∙ T .sameLength;
         }
 
-    ends : (x : End) → step (programOf s) limit now ≡ end x → run (step (programOf s) limit) b (stateOf s r₀ vs₀ words₀) ≡ record { stop = ended x; steps = n + 1 }
-    ends x e = T .left ∙ ap (λ (y : Result State). after n y) (run-is (end x) e)
-
-    ends-sum : (x : End) → step (programOf s) limit now ≡ end x → extra (programOf s) now ≡ 0 → r₀ .extras + total (step (programOf s) limit) (extra (programOf s)) b (stateOf s r₀ vs₀ words₀) ≡ r .extras
-    ends-sum x e z = T .sum ∙ (ap (λ (k : ℕ). r .extras + k) (total-is (end x) e ∙ z) ∙ add-zero (r .extras))
-
-    pub turn-value : {z : ℤ} {vs′ words′ : List ℤ} → StepResult s limit r vs words (Value z) vs′ words′ → RunResult s limit b r₀ vs₀ words₀ (record { stopped = S.Value z; steps = n + 1; regs = r }) vs′ words′
-    turn-value {z} {vs′} {words′} D =
+    pub turn-ended : {e : End} {vs′ words′ : List ℤ} → StepResult s limit r vs words (Ended e) vs′ words′
+        → RunResult s limit b r₀ vs₀ words₀ (record { stopped = Stopped.Ended e; steps = n + 1; regs = zeroRegs (r .extras) }) (replicate 32 (pos 0)) words′
+    turn-ended {e} {vs′} {words′} D =
+        let q : run (step (programOf s) limit) b (stateOf s r₀ vs₀ words₀) ≡ record { stop = ended (endAs e); steps = n + 1 } =
+        T .left ∙ ap (λ (y : Result State). after n y) (run-is (end (endAs e)) (sym (D .outcome))) in
         record {
-          stop = ap (λ (y : Result State). y .stop) (ends (value z) (sym (D .outcome)));
-          steps = ap (λ (y : Result State). y .steps) (ends (value z) (sym (D .outcome)));
-          extras = ends-sum (value z) (sym (D .outcome)) (D .held);
-          held = tt;
+          tells = ap toldOf q;
+          state = subst (λ (y : Result State). StoppedAt s limit (zeroRegs (r .extras)) (replicate 32 (pos 0)) words′ (y .stop)) (sym q) (refl, refl);
+          extras = T .sum ∙ (ap (λ (k : ℕ). r .extras + k) (total-is (end (endAs e)) (sym (D .outcome)) ∙ D .held) ∙ add-zero (r .extras));
           kept = D .kept ∙ T .kept;
           sameLength = D .sameLength ∙ T .sameLength;
         }
 
-    pub turn-uncaught : {vs′ words′ : List ℤ} → StepResult s limit r vs words Uncaught vs′ words′ → RunResult s limit b r₀ vs₀ words₀ (record { stopped = S.Uncaught; steps = n + 1; regs = r }) vs′ words′
-    turn-uncaught {vs′} {words′} D =
-        record {
-          stop = ap (λ (y : Result State). y .stop) (ends uncaught (sym (D .outcome)));
-          steps = ap (λ (y : Result State). y .steps) (ends uncaught (sym (D .outcome)));
-          extras = ends-sum uncaught (sym (D .outcome)) (D .held);
-          held = tt;
-          kept = D .kept ∙ T .kept;
-          sameLength = D .sameLength ∙ T .sameLength;
-        }
-
-    pub turn-deep : {vs′ words′ : List ℤ} → StepResult s limit r vs words Deep vs′ words′ → RunResult s limit b r₀ vs₀ words₀ (record { stopped = S.Deep; steps = n; regs = r }) vs′ words′
+    pub turn-deep : {vs′ words′ : List ℤ} → StepResult s limit r vs words Deep vs′ words′ → RunResult s limit b r₀ vs₀ words₀ (record { stopped = Stopped.Deep; steps = n; regs = r }) vs′ words′
     turn-deep {vs′} {words′} D =
         let q : run (step (programOf s) limit) b (stateOf s r₀ vs₀ words₀) ≡ record { stop = deep now; steps = n + 0 } = T .left ∙ ap (λ (y : Result State). after n y) (run-is tooDeep (sym (D .outcome))) in
         let ev : vs′ ≡ vs = D .held .0 in
         let ew : words′ ≡ words = D .held .1 in
+        let h : Reached s limit r vs′ words′ now = subst (λ (ws : List ℤ). Reached s limit r vs′ ws now) (sym ew) (subst (λ (us : List ℤ). Reached s limit r us words now) (sym ev) (refl, T .held)) in
         record {
-          stop = ap (λ (y : Result State). y .stop) q ∙ (ap (λ (us : List ℤ). deep (stateOf s r us words)) (sym ev) ∙ ap (λ (ws : List ℤ). deep (stateOf s r vs′ ws)) (sym ew));
-          steps = ap (λ (y : Result State). y .steps) q ∙ add-zero n;
+          tells = ap toldOf q ∙ ap (λ (k : ℕ). record { stop = deep tt; steps = k }) (add-zero n);
+          state = subst (λ (y : Result State). StoppedAt s limit r vs′ words′ (y .stop)) (sym q) h;
           extras = T .sum ∙ (ap (λ (k : ℕ). r .extras + k) (total-is tooDeep (sym (D .outcome))) ∙ add-zero (r .extras));
-          held = subst (λ (ws : List ℤ). Invariant s limit r vs′ ws) (sym ew) (subst (λ (us : List ℤ). Invariant s limit r us words) (sym ev) (T .held));
           kept = D .kept ∙ T .kept;
           sameLength = D .sameLength ∙ T .sameLength;
         }
@@ -144,25 +134,21 @@ module _ {s starts handlers params locals : List ℕ} (L : MachineTables s start
     pub on-next : {q : Regs} → x ≡ Next q → Turn s limit b r₀ vs₀ words₀ (n + 1) q vs′ words′
     on-next e = turn-next l (by e)
 
-    pub on-value : {z y : ℤ} → x ≡ Value z → y ≡ z → RunResult s limit b r₀ vs₀ words₀ (record { stopped = S.Value y; steps = n + 1; regs = r }) vs′ words′
-    on-value {z} {y} e q = subst (λ (w : ℤ). RunResult s limit b r₀ vs₀ words₀ (record { stopped = S.Value w; steps = n + 1; regs = r }) vs′ words′) (sym q) (turn-value l (by e))
+    pub on-ended : {e : End} {q : Regs} → x ≡ Ended e → q ≡ zeroRegs (r .extras) → RunResult s limit b r₀ vs₀ words₀ (record { stopped = Stopped.Ended e; steps = n + 1; regs = q }) (replicate 32 (pos 0)) words′
+    on-ended {e} h z = subst (λ (q : Regs). RunResult s limit b r₀ vs₀ words₀ (record { stopped = Stopped.Ended e; steps = n + 1; regs = q }) (replicate 32 (pos 0)) words′) (sym z) (turn-ended l (by h))
 
-    pub on-uncaught : x ≡ Uncaught → RunResult s limit b r₀ vs₀ words₀ (record { stopped = S.Uncaught; steps = n + 1; regs = r }) vs′ words′
-    on-uncaught e = turn-uncaught l (by e)
-
-    pub on-deep : x ≡ Deep → RunResult s limit b r₀ vs₀ words₀ (record { stopped = S.Deep; steps = n; regs = r }) vs′ words′
+    pub on-deep : x ≡ Deep → RunResult s limit b r₀ vs₀ words₀ (record { stopped = Stopped.Deep; steps = n; regs = r }) vs′ words′
     on-deep e = turn-deep l (by e)
 
-  pub turn-spent : b ≤ n → RunResult s limit b r₀ vs₀ words₀ (record { stopped = S.Spent; steps = n; regs = r }) vs words
+  pub turn-spent : b ≤ n → RunResult s limit b r₀ vs₀ words₀ (record { stopped = Stopped.Spent; steps = n; regs = r }) vs words
   turn-spent l =
       let f : n ≤ b = T .stepBound in
       let z : b - n ≡ 0 = omega arith in
       let q : run (step (programOf s) limit) b (stateOf s r₀ vs₀ words₀) ≡ record { stop = spent now; steps = n + 0 } = T .left ∙ ap (λ (k : ℕ). after n (run (step (programOf s) limit) k now)) z in
       record {
-        stop = ap (λ (y : Result State). y .stop) q;
-        steps = ap (λ (y : Result State). y .steps) q ∙ add-zero n;
+        tells = ap toldOf q ∙ ap (λ (k : ℕ). record { stop = spent tt; steps = k }) (add-zero n);
+        state = subst (λ (y : Result State). StoppedAt s limit r vs words (y .stop)) (sym q) (refl, T .held);
         extras = T .sum ∙ (ap (λ (k : ℕ). r .extras + total (step (programOf s) limit) (extra (programOf s)) k now) z ∙ add-zero (r .extras));
-        held = T .held;
         kept = T .kept;
         sameLength = T .sameLength;
       }
@@ -178,5 +164,5 @@ module _ {s : List ℕ} {limit b : ℕ} {r₀ : Regs} {vs₀ words₀ : List ℤ
   pub down-next : {left : ℕ} → left ≤ b → 0 < left → Turn s limit b r₀ vs₀ words₀ (b - left + 1) r vs words → Turn s limit b r₀ vs₀ words₀ (b - (left - 1)) r vs words
   down-next {left} h k T = let q : b - left + 1 ≡ b - (left - 1) = omega arith in subst (λ (n : ℕ). Turn s limit b r₀ vs₀ words₀ n r vs words) q T
 
-  pub down-spent : {left : ℕ} {starts handlers params locals : List ℕ} → MachineTables s starts handlers params locals → left ≤ 0 → Turn s limit b r₀ vs₀ words₀ (b - left) r vs words → RunResult s limit b r₀ vs₀ words₀ (record { stopped = S.Spent; steps = b; regs = r }) vs words
-  down-spent {left} L h T = let q : b - left ≡ b = omega arith in turn-spent L (subst (λ (n : ℕ). Turn s limit b r₀ vs₀ words₀ n r vs words) q T) (omega arith)
+  pub down-spent : {left : ℕ} → FileInvariant s → left ≤ 0 → Turn s limit b r₀ vs₀ words₀ (b - left) r vs words → RunResult s limit b r₀ vs₀ words₀ (record { stopped = Stopped.Spent; steps = b; regs = r }) vs words
+  down-spent {left} F h T = let q : b - left ≡ b = omega arith in turn-spent F (subst (λ (n : ℕ). Turn s limit b r₀ vs₀ words₀ n r vs words) q T) (omega arith)

@@ -3,7 +3,6 @@
 // A record is a number of words to lend less than or beyond 48 a frame (one byte, 128 for none), a length (2 bytes, the low byte first),
 // and the input of `both`: argument count, arguments, depth, budget, file.
 use bench::machine::Answer;
-use bench::machine::Stopped;
 use bench::machine::run;
 use case_io::input::argument_bytes;
 use case_io::input::arguments;
@@ -12,38 +11,15 @@ use case_io::input::read_part;
 use case_io::input::read_whole;
 use case_io::print::numbered;
 use case_io::print::say;
-use case_io::print::value;
 use case_io::words::UNTOUCHED;
 use case_io::words::lent;
 use case_io::words::print_frames;
 use case_io::words::print_refused;
 use case_io::words::print_rest;
+use case_io::words::print_stop;
 use casts::pair;
 use casts::word;
 use parsing::Checked;
-
-// How the run stopped; the answer is how many frames are in use then.
-fn print_stop(s: Stopped, waiting: usize) -> usize {
-    match s {
-        Stopped::Value(z) => {
-            say(b"value");
-            value(z);
-            0
-        }
-        Stopped::Uncaught => {
-            say(b"uncaught");
-            0
-        }
-        Stopped::Spent => {
-            say(b"spent");
-            waiting
-        }
-        Stopped::Deep => {
-            say(b"deep");
-            waiting
-        }
-    }
-}
 
 // The line of a record: of each waiting frame its four numbers.
 fn print_answer(a: Answer, words: &[i32], depth: usize) {

@@ -27,10 +27,10 @@ use Rattle.procedure_file.specs.Check.{programOf}
 use Rattle.procedure_layout.specs.Rest.{restAt}
 use Rattle.bench_step.specs.declared.step.Regs.{Regs}
 use Rattle.bench_step.specs.declared.step.Step.the-variants.{Next, Deep}
-use Rattle.procedure_file.specs.FileInvariant.{Stands}
-use Rattle.bench_step.specs.MachineTables.{functionAt, varsOf, MachineTables}
-use Rattle.bench_step.specs.Machine.{frameOf, framesOf, stateOf, FrameStands, Invariant, StepResult, ArgumentsInBounds}
-use Rattle.bench_step.specs.StepLaws.{length-frames, vars-bound, variables-are, before, stepped, extra-is, placed, there, small, below, on, moved}
+use Rattle.procedure_file.specs.Places.{startOf}
+use Rattle.procedure_file.specs.FileInvariant.{FileInvariant, Stands}
+use Rattle.bench_step.specs.Machine.{functionAt, varsOf, frameOf, framesOf, stateOf, FrameStands, Invariant, StepResult, ArgumentsInBounds}
+use Rattle.bench_step.specs.StepLaws.{length-frames, vars-bound, before, stepped, extra-is, placed, small, below, on, moved}
 use Rattle.bench_step.specs.FrameStepLaws.{frames-same, front, frameWith}
 
 map-same : {A B : Type 0} (f g : A → B) (Q : A → Type 0) (xs : List A) → All Q xs → ((x : A) → Q x → f x ≡ g x) → map f xs ≡ map g xs
@@ -41,74 +41,74 @@ map-same {B = B} f g Q (x ∷ xs) a h = ap (λ (y : B). y ∷ map f xs) (h x (a 
 pub value-there : {s : List ℕ} {at k : ℕ} {words : List ℤ} {base i y : ℕ} → ArgumentsInBounds s at k words base → i < k → y ≡ getD s (at + i) 0 → base + y < length words
 value-there {s} {at} {words = words} {base = base} {i = i} A l e = let r : base + 32 ≤ length words = A .room in let m : getD s (at + i) 0 < 32 = A .small i l in omega arith
 
-module _ {s starts handlers params locals : List ℕ} (L : MachineTables s starts handlers params locals) {limit : ℕ} {r : Regs} {vs words : List ℤ} (H : Invariant s limit r vs words)
+module _ {s : List ℕ} (F : FileInvariant s) {limit : ℕ} {r : Regs} {vs words : List ℤ} (H : Invariant s limit r vs words)
     {x g c n : ℕ} (op : operationAt s (r .at) ≡ Call x g c n) where
   abbrev ys : List ℕ
   ys = argumentsAt s (r .at) c
 
   callee : g < length (programOf s)
-  callee = placed L H op .block .1
+  callee = placed F H op .block .1
 
   -- With all frames waiting.
   pub call-deep : limit ≤ r .waiting → StepResult s limit r vs words Deep vs words
   unfolding step
   call-deep l =
-      let d : step (programOf s) limit (before L H (Call x g c n)) ≡ tooDeep = rw (length-frames s words (r .waiting), le-leb limit (r .waiting) l) in
-      record { outcome = sym (stepped L H op ∙ d); held = (refl, refl); kept = refl; sameLength = refl }
+      let d : step (programOf s) limit (before F H (Call x g c n)) ≡ tooDeep = rw (length-frames s words (r .waiting), le-leb limit (r .waiting) l) in
+      record { outcome = sym (stepped F H op ∙ d); held = (refl, refl); kept = refl; sameLength = refl }
 
   count : length ys ≡ functionAt s g .params
-  count = placed L H op .block .2
+  count = placed F H op .block .2
 
   c-is : c ≡ functionAt s g .params
-  c-is = sym (L .invariant .called (r .at) x g c n op) ∙ count
+  c-is = sym (F .called (r .at) x g c n op) ∙ count
 
   -- What the code may rely on.
   pub record CallSafe : Type 0 where
-    pub function : g < 32
-    pub table : 64 * g < 2048
+    pub function : g < length (programOf s)
     pub target : x < 32
     pub variableBound : varsOf s (r .function) ≤ 32
     pub callee : functionAt s g .params + functionAt s g .locals ≤ 32
     pub place : r .at < 32768
     pub behind : n < 32768
     pub handler : r .handler ≤ 63
-    pub own : r .function < 32
-    pub bytes : (i : ℕ) → i < functionAt s g .params → r .at + 4 + i < length s
-    pub arguments : (i : ℕ) → i < functionAt s g .params → getD s (r .at + 4 + i) 0 < 32
+    pub own : r .function < length (programOf s)
+    pub ownBound : r .function < 32
+    pub bytes : (i : ℕ) → i < c → r .at + 4 + i < length s
+    pub arguments : (i : ℕ) → i < c → getD s (r .at + 4 + i) 0 < 32
 
   pub call-safe : CallSafe
   call-safe =
-      let w = placed L H op in
+      let w = placed F H op in
       let lg : g < length (programOf s) = callee in
       let lf : r .function < length (programOf s) = w .function in
-      let functions : length (programOf s) ≤ 32 = L .functionBound in
-      let fileBound : length s ≤ 32768 = L .fileBound in
+      let functions : length (programOf s) ≤ 32 = F .most in
+      let fileBound : length s ≤ 32768 = F .fileBound in
       let lx : x < varsOf s (r .function) = w .block .0 in
-      let v : varsOf s (r .function) ≤ 32 = small L H in
-      let a : r .at < length s = L .invariant .inside (r .function) (r .at) (H .here) in
-      let b : n < length s = L .invariant .inside (r .function) n (on L H op) in
-      let k : length (functionAt s (r .function) .blocks) ≤ 63 = L .blocksBound (r .function) lf in
+      let v : varsOf s (r .function) ≤ 32 = small F H in
+      let a : r .at < length s = F .inside (r .function) (r .at) (H .here) in
+      let b : n < length s = F .inside (r .function) n (on F H op) in
+      let k : length (functionAt s (r .function) .blocks) ≤ 63 = F .counts (r .function) lf .blocks in
       let h : r .handler ≤ length (functionAt s (r .function) .blocks) = w .handler in
       record {
-        function = omega arith;
-        table = omega arith;
+        function = lg;
         target = omega arith;
         variableBound = v;
-        callee = vars-bound L lg;
+        callee = vars-bound F lg;
         place = omega arith;
         behind = omega arith;
         handler = omega arith;
-        own = omega arith;
-        bytes = λ i l. bytes-there i l;
+        own = lf;
+        ownBound = omega arith;
+        bytes = bytes-there;
         arguments = λ i l.
-            below L H (all-at (λ (y : ℕ). y < varsOf s (r .function)) ys i (getD s (r .at + 4 + i) 0) (w .block .3) (L .invariant .argument (r .at) x g c n i op (subst (λ (m : ℕ). i < m) (sym c-is) l)));
+            below F H (all-at (λ (y : ℕ). y < varsOf s (r .function)) ys i (getD s (r .at + 4 + i) 0) (w .block .3) (F .argument (r .at) x g c n i op l));
       }
     where
-      bytes-there : (i : ℕ) → i < functionAt s g .params → r .at + 4 + i < length s
+      bytes-there : (i : ℕ) → i < c → r .at + 4 + i < length s
       bytes-there i l =
           let a : length ys ≡ min c (length (drop (r .at + 4) s)) = length-take c (drop (r .at + 4) s) in
           let b : length (drop (r .at + 4) s) ≡ length s - (r .at + 4) = length-drop (r .at + 4) s in
-          let e : length ys ≡ functionAt s g .params = count in
+          let e : length ys ≡ c = F .called (r .at) x g c n op in
           omega arith
 
   -- The caller's variables, the head of the frame that keeps them, and the frames with that one.
@@ -125,16 +125,13 @@ module _ {s starts handlers params locals : List ℕ} (L : MachineTables s start
   args = map (λ (y : ℕ). getD own y (pos 0)) ys
 
   own-long : length own ≡ varsOf s (r .function)
-  own-long = placed L H op .variables
+  own-long = placed F H op .variables
 
   ys-small : All (λ (y : ℕ). y < length own) ys
-  ys-small = subst (λ (m : ℕ). All (λ (y : ℕ). y < m) ys) (sym own-long) (placed L H op .block .3)
+  ys-small = subst (λ (m : ℕ). All (λ (y : ℕ). y < m) ys) (sym own-long) (placed F H op .block .3)
 
   -- With a frame free, and the count v of the caller's variables.
-  module _ (free : r .waiting < limit) {v : ℕ} (ev : v ≡ getD params (r .function) 0 + getD locals (r .function) 0) where
-    v-is : v ≡ varsOf s (r .function)
-    v-is = ev ∙ variables-are L (there L H)
-
+  module _ (free : r .waiting < limit) {v : ℕ} (v-is : v ≡ varsOf s (r .function)) where
     pub call-push : (48 * (r .waiting + 1) ≤ length words) × (Small saved × ((v ≤ length vs) × (v ≤ 44)))
     call-push =
         let S = call-safe in
@@ -147,15 +144,15 @@ module _ {s starts handlers params locals : List ℕ} (L : MachineTables s start
     calling : step (programOf s) limit (stateOf s r vs words) ≡ next (begun g (functionAt s g) args frames)
     unfolding step
     calling =
-        let d : step (programOf s) limit (before L H (Call x g c n)) ≡ next (begun g (functionAt s g) args frames) =
+        let d : step (programOf s) limit (before F H (Call x g c n)) ≡ next (begun g (functionAt s g) args frames) =
         rw (length-frames s words (r .waiting), lt-leb limit (r .waiting) free, at-getD (programOf s) g noFunction callee, values-are own ys ys-small) in
-        stepped L H op ∙ d
+        stepped F H op ∙ d
 
     room : 48 * (r .waiting + 1) ≤ length words
     room = call-push .0
 
     own-bound : length own ≤ 44
-    own-bound = let e : length own ≡ varsOf s (r .function) = own-long in let m : varsOf s (r .function) ≤ 32 = small L H in omega arith
+    own-bound = let e : length own ≡ varsOf s (r .function) = own-long in let m : varsOf s (r .function) ≤ 32 = small F H in omega arith
 
     abbrev after : List ℤ
     after = pushed (r .waiting) saved own words own-bound room
@@ -176,92 +173,86 @@ module _ {s starts handlers params locals : List ℕ} (L : MachineTables s start
             rw e
             (record {
               head = pushed-fits (r .waiting) saved own words own-bound room;
-              place = subst (λ (h : Head). Stands s (h .word0) (h .word2)) (sym (pushed-head (r .waiting) saved own words own-bound room)) (on L H op);
+              place = subst (λ (h : Head). Stands s (h .word0) (h .word2)) (sym (pushed-head (r .waiting) saved own words own-bound room)) (on F H op);
             })
         by (no e) =
             let k : i < r .waiting = omega (arith, l, e) in
             subst (FrameStands s) (sym (frame-same i (r .waiting) after words k (pushed-below (r .waiting) saved own words own-bound room))) (H .frames i k)
 
-    -- The words with that frame, the count k of arguments, and the variables with them.
-    module _ {words′ : List ℤ} (ew : words′ ≡ lay (48 * r .waiting) (frameWords saved (take v vs)) words) {k : ℕ} (ek : k ≡ getD params g 0) where
+    -- The words with that frame, and the variables with the arguments.
+    module _ {words′ : List ℤ} (ew : words′ ≡ lay (48 * r .waiting) (frameWords saved (take v vs)) words) where
       words-are : words′ ≡ after
       words-are = ew ∙ ap (λ (j : ℕ). lay (48 * r .waiting) (frameWords saved (take j vs)) words) v-is
 
       words-long : length words′ ≡ length words
       words-long = ap length words-are ∙ pushed-long (r .waiting) saved own words own-bound room
 
-      k-is : k ≡ functionAt s g .params
-      k-is = ek ∙ L .paramsAt g callee
-
-      pub call-arguments : ArgumentsInBounds s (r .at + 4) k words′ (48 * r .waiting + 4) × (length vs ≡ 32)
+      pub call-arguments : ArgumentsInBounds s (r .at + 4) c words′ (48 * r .waiting + 4) × (length vs ≡ 32)
       call-arguments =
           let S = call-safe in
-          let q : k ≡ functionAt s g .params = k-is in
+          let q : c ≡ functionAt s g .params = c-is in
           let y : 48 * (r .waiting + 1) ≤ length words = room in
           let z : length words′ ≡ length words = words-long in (
             record {
               countBound = omega arith;
-              bytes = λ i h. S .bytes i (subst (λ (j : ℕ). i < j) q h);
-              small = λ i h. S .arguments i (subst (λ (j : ℕ). i < j) q h);
+              bytes = S .bytes;
+              small = S .arguments;
               room = omega arith;
             },
             H .variables,
           )
 
-      args-are : map (λ (y : ℕ). getD words′ (48 * r .waiting + 4 + y) (pos 0)) (take k (drop (r .at + 4) s)) ≡ args
+      args-are : map (λ (y : ℕ). getD words′ (48 * r .waiting + 4 + y) (pos 0)) (take c (drop (r .at + 4) s)) ≡ args
       args-are =
-          rw (k-is, ← c-is, words-are)
+          rw words-are
           (map-same (λ (y : ℕ). getD after (48 * r .waiting + 4 + y) (pos 0)) (λ (y : ℕ). getD own y (pos 0)) (λ (y : ℕ). y < length own) ys ys-small
           (λ y l. pushed-value (r .waiting) saved own words own-bound room y l))
 
-      args-long : length args ≡ k
-      args-long = length-map ys (λ (y : ℕ). getD own y (pos 0)) ∙ (count ∙ sym k-is)
+      args-long : length args ≡ c
+      args-long = length-map ys (λ (y : ℕ). getD own y (pos 0)) ∙ (count ∙ sym c-is)
 
-      module _ {us₁ : List ℤ} (e₁ : us₁ ≡ lay 0 (map (λ (y : ℕ). getD words′ (48 * r .waiting + 4 + y) (pos 0)) (take k (drop (r .at + 4) s))) vs) {l : ℕ} (el : l ≡ getD locals g 0) where
-        l-is : l ≡ functionAt s g .locals
-        l-is = el ∙ L .localsAt g callee
-
+      module _ {us₁ : List ℤ} (e₁ : us₁ ≡ lay 0 (map (λ (y : ℕ). getD words′ (48 * r .waiting + 4 + y) (pos 0)) (take c (drop (r .at + 4) s))) vs) {l : ℕ} (l-is : l ≡ functionAt s g .locals) where
         with-args : us₁ ≡ lay 0 args vs
         with-args = e₁ ∙ ap (λ (zs : List ℤ). lay 0 zs vs) args-are
 
-        all-bound : k + l ≤ 32
-        all-bound = let S = call-safe in let q : k ≡ functionAt s g .params = k-is in let p : l ≡ functionAt s g .locals = l-is in omega arith
+        all-bound : c + l ≤ 32
+        all-bound = let S = call-safe in let q : c ≡ functionAt s g .params = c-is in let p : l ≡ functionAt s g .locals = l-is in omega arith
 
-        pub call-clear : (k ≤ k + l) × (k + l ≤ length us₁)
+        pub call-clear : (c ≤ c + l) × (c + l ≤ length us₁)
         call-clear =
-            let a : k + l ≤ 32 = all-bound in
+            let a : c + l ≤ 32 = all-bound in
             let b : length vs ≡ 32 = H .variables in
-            let m : length args ≡ k = args-long in
+            let m : length args ≡ c = args-long in
             let w : length us₁ ≡ length vs = ap length with-args ∙ length-lay 0 args vs (omega arith) in
             (omega arith, omega arith)
 
         abbrev all : List ℤ
         all = args ++ replicate l (pos 0)
 
-        all-long : length all ≡ k + l
+        all-long : length all ≡ c + l
         all-long = simp (length-append, length-replicate) (ap (λ (j : ℕ). j + l) args-long)
 
-        pub call-done : {a : ℕ} {us₂ : List ℤ} → us₂ ≡ lay k (replicate (k + l - k) (pos 0)) us₁ → a ≡ getD starts (64 * g) 0
+        pub call-done : {a : ℕ} {us₂ : List ℤ} → us₂ ≡ lay c (replicate (c + l - c) (pos 0)) us₁ → a ≡ startOf (programOf s) g 0
             → StepResult s limit r vs words (Next (record { function = g; handler = 0; at = a; waiting = r .waiting + 1; extras = r .extras + (1 + l) })) us₂ words′
         call-done {us₂ = us₂} e₂ ea =
-            let b : k + l ≤ 32 = all-bound in
+            let b : c + l ≤ 32 = all-bound in
             let d : length vs ≡ 32 = H .variables in
-            let m : length args ≡ k = args-long in
-            let z : k + l - k ≡ l = omega arith in
-            let o : length all ≡ k + l = all-long in
+            let m : length args ≡ c = args-long in
+            let z : c + l - c ≡ l = omega arith in
+            let o : length all ≡ c + l = all-long in
             let t : 1 + l ≡ suc l = omega arith in
             let e : us₂ ≡ lay 0 all vs =
-            join 0 k args (replicate l (pos 0)) all vs us₁ us₂ with-args (e₂ ∙ ap (λ (j : ℕ). lay k (replicate j (pos 0)) us₁) z) (omega arith) refl (omega arith) in
+            join 0 c args (replicate l (pos 0)) all vs us₁ us₂ with-args (e₂ ∙ ap (λ (j : ℕ). lay c (replicate j (pos 0)) us₁) z) (omega arith) refl (omega arith) in
             rw (words-are, ea)
-            (moved L H (calling ∙ lands e o) (L .entryAt g callee) (λ i j. stands-are i (subst (λ (w : ℕ). i < w) (add-one (r .waiting)) j))
+            (moved F H (calling ∙ lands e o) (F .start g 0 callee (omega arith)) (λ i j. stands-are i (subst (λ (w : ℕ). i < w) (add-one (r .waiting)) j))
             (ap length e ∙ (length-lay 0 all vs (omega arith) ∙ d))
             (pushed-long (r .waiting) saved own words own-bound room) (pushed-past (r .waiting) saved own words own-bound room limit free)
-            (ap (λ (j : ℕ). r .extras + j) (t ∙ (ap suc l-is ∙ sym (extra-is L H op)))))
+            (ap (λ (j : ℕ). r .extras + j) (t ∙ (ap suc l-is ∙ sym (extra-is F H op)))))
           where
-            lands : us₂ ≡ lay 0 all vs → length all ≡ k + l
-                → next (begun g (functionAt s g) args frames) ≡ next (stateOf s (record { function = g; handler = 0; at = getD starts (64 * g) 0; waiting = r .waiting + 1; extras = r .extras + (1 + l) }) us₂ after)
+            lands : us₂ ≡ lay 0 all vs → length all ≡ c + l
+                → next (begun g (functionAt s g) args frames) ≡ next (stateOf s (record { function = g; handler = 0; at = startOf (programOf s) g 0; waiting = r .waiting + 1; extras = r .extras + (1 + l) }) us₂ after)
             lands e o = unfold stateOf in
-                ap (λ (b : Block). next (state g 0 b (args ++ replicate (functionAt s g .locals) (pos 0)) frames)) (sym (L .entryIs g callee))
-                ∙ (ap (λ (j : ℕ). next (state g 0 (restAt s (getD starts (64 * g) 0)) (args ++ replicate j (pos 0)) frames)) (sym l-is)
-                ∙ (ap (λ (us : List ℤ). next (state g 0 (restAt s (getD starts (64 * g) 0)) us frames)) (sym (ap (take (varsOf s g)) e ∙ front (varsOf s g) all vs (o ∙ (ap (λ (j : ℕ). j + l) k-is ∙ ap (λ (j : ℕ). functionAt s g .params + j) l-is))))
-                ∙ ap (λ (fs : List Frame). next (state g 0 (restAt s (getD starts (64 * g) 0)) (take (varsOf s g) us₂) fs)) (sym frames-are ∙ ap (framesOf s after) (sym (add-one (r .waiting))))))
+                ap (λ (b : Block). next (state g 0 b (args ++ replicate (functionAt s g .locals) (pos 0)) frames)) (sym (F .block g 0 callee (omega arith)))
+                ∙ (ap (λ (j : ℕ). next (state g 0 (restAt s (startOf (programOf s) g 0)) (args ++ replicate j (pos 0)) frames)) (sym l-is)
+                ∙ (ap (λ (us : List ℤ). next (state g 0 (restAt s (startOf (programOf s) g 0)) us frames)) (sym (ap (take (varsOf s g)) e ∙ front (varsOf s g) all vs (o ∙ (ap (λ (j : ℕ). j + l) c-is ∙ ap (λ (j : ℕ). functionAt s g .params + j) l-is))))
+                ∙ ap (λ (fs : List Frame). next (state g 0 (restAt s (startOf (programOf s) g 0)) (take (varsOf s g) us₂) fs)) (sym frames-are ∙ ap (framesOf s after) (sym (add-one (r .waiting))))))

@@ -6,11 +6,11 @@ use mathlib.Core.Path.{_≡_, refl, sym, ap, _∙_, subst}
 use mathlib.Core.List.{List, _∷_}
 use lib.IntN.{ℤ, pos}
 use lib.ListN.{length, getD, set, take, drop, length-set}
-use lib.Seq.{take-set-lt, take-at}
+use lib.Seq.{take-set-lt, take-at, take-take}
 use Rattle.semantics.specs.Program.{Block, Program, variables}
 use Rattle.semantics.specs.Run.{uncaught, next, end}
 use Rattle.semantics.specs.Bench.{Frame, frame, state, enter, returned, unwound, raised, step}
-use Rattle.semantics.specs.WellFormed.{All, WellFormedFrame}
+use Rattle.semantics.specs.WellFormed.{All, IsLabel, WellFormedFrame}
 use Rattle.semantics.specs.Extras.{caught, caughtOutside, extra}
 use Rattle.semantics.specs.Matching.{newestGuarded}
 use Rattle.semantics.specs.SlotLaws.{given-some}
@@ -24,11 +24,11 @@ use Rattle.procedure_operations.specs.Operation.{operationAt}
 use Rattle.procedure_file.specs.Check.{programOf}
 use Rattle.procedure_layout.specs.Rest.{restAt}
 use Rattle.bench_step.specs.declared.step.Regs.{Regs}
-use Rattle.bench_step.specs.declared.step.Step.the-variants.{Next, Value, Uncaught}
-use Rattle.procedure_file.specs.FileInvariant.{Stands}
-use Rattle.bench_step.specs.MachineTables.{functionAt, varsOf, MachineTables}
-use Rattle.bench_step.specs.Machine.{frameOf, framesOf, stateOf, Invariant, StepResult}
-use Rattle.bench_step.specs.StepLaws.{length-frames, vars-bound, variables-are, label-safe, Entry, entry, stepped, extra-is, placed, there, below, moved, value-is, no-extras, entered, to-label}
+use Rattle.bench_step.specs.declared.step.Step.the-variants.{Next, Ended}
+use Rattle.runs.specs.declared.End.the-variants.{Value, Uncaught}
+use Rattle.procedure_file.specs.FileInvariant.{FileInvariant, Stands}
+use Rattle.bench_step.specs.Machine.{functionAt, varsOf, startRegs, frameOf, framesOf, stateOf, Invariant, StepResult}
+use Rattle.bench_step.specs.StepLaws.{length-frames, vars-bound, enters, stepped, extra-is, placed, there, below, moved, value-is, no-extras, to-label}
 
 -- The frames below d are those of the first 48 × d words.
 pub frames-same : (s : List ℕ) (d : ℕ) (ws us : List ℤ) → take (48 * d) ws ≡ take (48 * d) us → framesOf s ws d ≡ framesOf s us d
@@ -41,7 +41,7 @@ frames-same s (suc d) ws us e =
     shorter a b q = sym (cut a) ∙ (ap (λ (l : List ℤ). take (48 * d) l) q ∙ cut b)
       where
         cut : (l : List ℤ) → take (48 * d) (take (48 * suc d) l) ≡ take (48 * d) l
-        cut l = lib.Seq.take-take (48 * d) (48 * suc d) l (omega arith)
+        cut l = take-take (48 * d) (48 * suc d) l (omega arith)
 
 -- The first n words, once n words are laid at the front.
 pub front : (n : ℕ) (w d : List ℤ) → length w ≡ n → take n (lay 0 w d) ≡ w
@@ -116,108 +116,104 @@ unwound-guarded : (P : Program) (f k : ℕ) (b : Block) (vs : List ℤ) (x : ℕ
 unwound-guarded P f zero b vs x fs l = absurd (omega arith)
 unwound-guarded P f (suc k) b vs x fs l = refl
 
-module _ {s starts handlers params locals : List ℕ} (L : MachineTables s starts handlers params locals) {limit : ℕ} {r : Regs} {vs words : List ℤ} (H : Invariant s limit r vs words) where
-  -- What is known of a waiting frame, of its head h and of its count n of variables.
-  pub record FrameSafe (d : ℕ) (h : Head) (n : ℕ) : Type 0 where
+module _ {s : List ℕ} (F : FileInvariant s) {limit : ℕ} {r : Regs} {vs words : List ℤ} (H : Invariant s limit r vs words) where
+  -- What is known of a waiting frame and of its head h.
+  pub record FrameSafe (d : ℕ) (h : Head) : Type 0 where
     pub function : h .word0 < length (programOf s)
-    pub functionBound : h .word0 < 32
     pub handler : h .word1 ≤ length (functionAt s (h .word0) .blocks)
-    pub table : 64 * h .word0 + h .word1 < 2048
-    pub count : n ≡ varsOf s (h .word0)
-    pub variableBound : n ≤ 32
+    pub variableBound : varsOf s (h .word0) ≤ 32
     pub variable : h .word3 < varsOf s (h .word0)
     pub result : h .word3 < 32
     pub stands : Stands s (h .word0) (h .word2)
-    pub there : 48 * d + 4 + n ≤ length words
+    pub copied : (48 * d + 4 + 32 ≤ length words) × (0 + 32 ≤ length vs)
     pub depthBound : d < 256
-    pub variableCount : length vs ≡ 32
 
-  pub frame-safe : {d n : ℕ} {h : Head} → d < r .waiting → h ≡ headOf (frameAt d words) → n ≡ getD params (h .word0) 0 + getD locals (h .word0) 0 → FrameSafe d h n
-  frame-safe {d} {n} {h} l e q =
+  pub frame-safe : {d : ℕ} {h : Head} → d < r .waiting → h ≡ headOf (frameAt d words) → FrameSafe d h
+  frame-safe {d} {h} l e =
       let w : WellFormedFrame (programOf s) (frameWith s h (valuesOf (frameAt d words))) = rw e (waits s words d (r .waiting) l frames-good) in
-      let a : h .word0 < length (programOf s) = w .0 .function in
-      let v : varsOf s (h .word0) ≤ 32 = vars-bound L a in
-      let m : n ≡ varsOf s (h .word0) = q ∙ variables-are L a in
+      let v : varsOf s (h .word0) ≤ 32 = vars-bound F (w .0 .function) in
       let x : h .word3 < varsOf s (h .word0) = subst (λ (k : ℕ). h .word3 < k) (w .0 .variables) (w .1) in
       let k : 48 * (d + 1) ≤ length words = frame-ready H l .0 in
-      let b : length (programOf s) ≤ 32 = L .functionBound in
+      let b : length vs ≡ 32 = H .variables in
       let y : r .waiting ≤ limit = H .waiting in
       let z : limit ≤ 256 = H .depthBound in
       record {
-        function = a;
-        functionBound = omega arith;
+        function = w .0 .function;
         handler = w .0 .handler;
-        table = label-safe L a (w .0 .handler);
-        count = m;
-        variableBound = omega arith;
+        variableBound = v;
         variable = x;
         result = omega arith;
         stands = rw e (H .frames d l .place);
-        there = omega arith;
+        copied = (omega arith, omega arith);
         depthBound = omega arith;
-        variableCount = H .variables;
       }
     where
       frames-good : All (WellFormedFrame (programOf s)) (framesOf s words (r .waiting))
       frames-good = unfold stateOf in H .good .1
 
-  -- A waiting frame whose n variables are copied to the front of the machine's.
-  module _ {d n : ℕ} {h : Head} {us : List ℤ} (l : d < r .waiting) (eh : h ≡ headOf (frameAt d words)) (en : n ≡ getD params (h .word0) 0 + getD locals (h .word0) 0)
-      (eu : us ≡ lay 0 (take n (drop (48 * d + 4) words)) vs) where
-    part-long : length (take n (drop (48 * d + 4) words)) ≡ n
-    part-long = length-part (48 * d + 4) n words (frame-safe l eh en .there)
+  -- A waiting frame whose values are copied to the machine's variables.
+  module _ {d : ℕ} {h : Head} {us : List ℤ} (l : d < r .waiting) (eh : h ≡ headOf (frameAt d words)) (eu : us ≡ lay 0 (take 32 (drop (48 * d + 4) words)) vs) where
+    abbrev part : List ℤ
+    part = take 32 (drop (48 * d + 4) words)
+
+    part-long : length part ≡ 32
+    part-long = length-part (48 * d + 4) 32 words (frame-safe l eh .copied .0)
+
+    part-is : (v : ℕ) → v ≤ 32 → take v us ≡ take v (drop (48 * d + 4) words)
+    part-is v h =
+        ap (take v) eu
+        ∙ (sym (take-take v 32 (lay 0 part vs) h) ∙ (ap (take v) (front 32 part vs part-long) ∙ take-take v 32 (drop (48 * d + 4) words) h))
 
     frame-is : frameOf s (frameAt d words) ≡ frameWith s h us
     frame-is =
-        let F = frame-safe l eh en in
+        let v : varsOf s (h .word0) ≤ 32 = frame-safe l eh .variableBound in
         ap (λ (k : Head). frameWith s k (valuesOf (frameAt d words))) (sym eh)
         ∙ ap (λ (ws : List ℤ). frame (h .word0) (h .word1) (restAt s (h .word2)) ws (h .word3))
-        (subst (λ (k : ℕ). take k (valuesOf (frameAt d words)) ≡ take k us) (F .count)
-        (frame-values d n words (omega arith) ∙ sym (ap (take n) eu ∙ front n (take n (drop (48 * d + 4) words)) vs part-long)))
+        (frame-values d (varsOf s (h .word0)) words (omega arith) ∙ sym (part-is (varsOf s (h .word0)) v))
 
     us-long : length us ≡ 32
     us-long =
-        let F = frame-safe l eh en in
-        let k : length (take n (drop (48 * d + 4) words)) ≡ n = part-long in
-        ap length eu ∙ (length-lay 0 (take n (drop (48 * d + 4) words)) vs (omega arith) ∙ H .variables)
+        let k : length part ≡ 32 = part-long in
+        let b : length vs ≡ 32 = H .variables in
+        ap length eu ∙ (length-lay 0 part vs (omega arith) ∙ b)
 
   -- 6 return
   pub return-safe : {x n : ℕ} → operationAt s (r .at) ≡ Return x n → x < 32
-  return-safe e = below L H (placed L H e .block)
+  return-safe e = below F H (placed F H e .block)
 
   returning : {x n : ℕ} {v : ℤ} → operationAt s (r .at) ≡ Return x n → v ≡ getD vs x (pos 0) → step (programOf s) limit (stateOf s r vs words) ≡ returned v (framesOf s words (r .waiting))
   unfolding step
-  returning e q = rw q (stepped L H e ∙ given-some (λ (z : ℤ). returned z (framesOf s words (r .waiting))) (value-is L H (placed L H e .block)))
+  returning e q = rw q (stepped F H e ∙ given-some (λ (z : ℤ). returned z (framesOf s words (r .waiting))) (value-is F H (placed F H e .block)))
 
-  pub return-value : {x n : ℕ} {v : ℤ} → operationAt s (r .at) ≡ Return x n → v ≡ getD vs x (pos 0) → r .waiting ≡ 0 → StepResult s limit r vs words (Value v) vs words
-  return-value {v = v} e q z = record { outcome = sym (returning e q ∙ ap (λ (d : ℕ). returned v (framesOf s words d)) z); held = extra-is L H e; kept = refl; sameLength = refl }
+  pub return-value : {x n : ℕ} {v : ℤ} → operationAt s (r .at) ≡ Return x n → v ≡ getD vs x (pos 0) → r .waiting ≡ 0 → StepResult s limit r vs words (Ended (Value v)) vs words
+  return-value {v = v} e q z = record { outcome = sym (returning e q ∙ ap (λ (d : ℕ). returned v (framesOf s words d)) z); held = extra-is F H e; kept = refl; sameLength = refl }
 
   pub last-below : ¬ (r .waiting ≡ 0) → r .waiting - 1 < r .waiting
   last-below w = omega (arith, w)
 
-  pub return-frame : {x n k : ℕ} {v : ℤ} {h : Head} {us : List ℤ} → operationAt s (r .at) ≡ Return x n → v ≡ getD vs x (pos 0) → ¬ (r .waiting ≡ 0) → h ≡ headOf (frameAt (r .waiting - 1) words)
-      → k ≡ getD params (h .word0) 0 + getD locals (h .word0) 0 → us ≡ lay 0 (take k (drop (48 * (r .waiting - 1) + 4) words)) vs
+  pub return-frame : {x n : ℕ} {v : ℤ} {h : Head} {us : List ℤ} → operationAt s (r .at) ≡ Return x n → v ≡ getD vs x (pos 0) → ¬ (r .waiting ≡ 0) → h ≡ headOf (frameAt (r .waiting - 1) words)
+      → us ≡ lay 0 (take 32 (drop (48 * (r .waiting - 1) + 4) words)) vs
       → StepResult s limit r vs words (Next (record { function = h .word0; handler = h .word1; at = h .word2; waiting = r .waiting - 1; extras = r .extras })) (set us (h .word3) v) words
   unfolding stateOf
-  return-frame {v = v} {h = h} {us = us} e q w eh ek eu =
+  return-frame {v = v} {h = h} {us = us} e q w eh eu =
       let l : r .waiting - 1 < r .waiting = last-below w in
       let z : r .waiting ≡ suc (r .waiting - 1) = omega arith in
-      let F = frame-safe l eh ek in
-      moved L H
+      let S = frame-safe l eh in
+      moved F H
       (returning e q
       ∙ (ap (λ (d : ℕ). returned v (framesOf s words d)) z
-      ∙ (ap (λ (g : Frame). returned v (g ∷ framesOf s words (r .waiting - 1))) (frame-is l eh ek eu)
-      ∙ ap (λ (ws : List ℤ). next (state (h .word0) (h .word1) (restAt s (h .word2)) ws (framesOf s words (r .waiting - 1)))) (sym (take-set-lt (varsOf s (h .word0)) us (h .word3) v (F .variable))))))
-      (F .stands) (λ i k. H .frames i (omega arith)) (length-set us (h .word3) v ∙ us-long l eh ek eu) refl refl (no-extras L H (extra-is L H e))
+      ∙ (ap (λ (g : Frame). returned v (g ∷ framesOf s words (r .waiting - 1))) (frame-is l eh eu)
+      ∙ ap (λ (ws : List ℤ). next (state (h .word0) (h .word1) (restAt s (h .word2)) ws (framesOf s words (r .waiting - 1)))) (sym (take-set-lt (varsOf s (h .word0)) us (h .word3) v (S .variable))))))
+      (S .stands) (λ i k. H .frames i (omega arith)) (length-set us (h .word3) v ∙ us-long l eh eu) refl refl (no-extras F H (extra-is F H e))
 
   -- 8 raise
-  pub raise-safe : {n : ℕ} → operationAt s (r .at) ≡ Raise n → 64 * r .function + r .handler < 2048
-  raise-safe e = label-safe L (there L H) (placed L H e .handler)
-
   -- Under a handler.
-  pub raise-here : {n : ℕ} {q : Regs} → operationAt s (r .at) ≡ Raise n → ¬ (r .handler ≡ 0) → q ≡ entered L H (r .handler) (r .extras) → StepResult s limit r vs words (Next q) vs words
+  pub here-safe : {n : ℕ} → operationAt s (r .at) ≡ Raise n → ¬ (r .handler ≡ 0) → (r .function < length (programOf s)) × IsLabel (length (functionAt s (r .function) .blocks)) (r .handler)
+  here-safe e z = (there F H, (omega (arith, z), placed F H e .handler))
+
+  pub raise-here : {n : ℕ} {q : Regs} → operationAt s (r .at) ≡ Raise n → ¬ (r .handler ≡ 0) → q ≡ startRegs s (r .function) (r .handler) (r .waiting) (r .extras) → StepResult s limit r vs words (Next q) vs words
   unfolding step
-  raise-here e z eq = to-label L H e (omega (arith, z), placed L H e .handler) (by-handler (r .handler) z) (no-extras L H (no-more (r .handler) z)) eq
+  raise-here e z eq = to-label F H e (here-safe e z .1) (by-handler (r .handler) z) (no-extras F H (no-more (r .handler) z)) eq
     where
       by-handler : (k : ℕ) → ¬ (k ≡ 0) → raised (programOf s) (r .function) k (take (varsOf s (r .function)) vs) (framesOf s words (r .waiting)) ≡ enter (programOf s) (r .function) k (take (varsOf s (r .function)) vs) (framesOf s words (r .waiting))
       by-handler zero h = absurd (h refl)
@@ -230,13 +226,13 @@ module _ {s starts handlers params locals : List ℕ} (L : MachineTables s start
   -- Without one.
   out : {n : ℕ} → operationAt s (r .at) ≡ Raise n → r .handler ≡ 0 → step (programOf s) limit (stateOf s r vs words) ≡ unwound (programOf s) (framesOf s words (r .waiting))
   unfolding step
-  out e z = stepped L H e ∙ ap (λ (k : ℕ). raised (programOf s) (r .function) k (take (varsOf s (r .function)) vs) (framesOf s words (r .waiting))) z
+  out e z = stepped F H e ∙ ap (λ (k : ℕ). raised (programOf s) (r .function) k (take (varsOf s (r .function)) vs) (framesOf s words (r .waiting))) z
 
   out-extra : {n : ℕ} → operationAt s (r .at) ≡ Raise n → r .handler ≡ 0 → extra (programOf s) (stateOf s r vs words) ≡ caught (framesOf s words (r .waiting))
-  out-extra e z = extra-is L H e ∙ ap (λ (k : ℕ). caughtOutside k (framesOf s words (r .waiting))) z
+  out-extra e z = extra-is F H e ∙ ap (λ (k : ℕ). caughtOutside k (framesOf s words (r .waiting))) z
 
   -- No frame has one.
-  pub raise-uncaught : {n k : ℕ} → operationAt s (r .at) ≡ Raise n → r .handler ≡ 0 → k ≡ newestGuarded (framesOf s words (r .waiting)) → k ≡ 0 → StepResult s limit r vs words Uncaught vs words
+  pub raise-uncaught : {n k : ℕ} → operationAt s (r .at) ≡ Raise n → r .handler ≡ 0 → k ≡ newestGuarded (framesOf s words (r .waiting)) → k ≡ 0 → StepResult s limit r vs words (Ended Uncaught) vs words
   raise-uncaught e z g q =
       let u : Unwinds s words (r .waiting) 0 = subst (Unwinds s words (r .waiting)) (sym g ∙ q) (unwinds s words (r .waiting)) in
       record { outcome = sym (out e z ∙ u .0); held = out-extra e z ∙ u .1; kept = refl; sameLength = refl }
@@ -249,20 +245,22 @@ module _ {s starts handlers params locals : List ℕ} (L : MachineTables s start
     pub caught-below : k - 1 < r .waiting
     caught-below = unwinding .0
 
-    pub raise-caught : {n m b a : ℕ} {h : Head} {us : List ℤ} → operationAt s (r .at) ≡ Raise n → r .handler ≡ 0 → h ≡ headOf (frameAt (k - 1) words) → m ≡ getD params (h .word0) 0 + getD locals (h .word0) 0
-        → us ≡ lay 0 (take m (drop (48 * (k - 1) + 4) words)) vs → b ≡ getD handlers (64 * h .word0 + h .word1) 0 → a ≡ getD starts (64 * h .word0 + h .word1) 0
-        → StepResult s limit r vs words (Next (record { function = h .word0; handler = b; at = a; waiting = k - 1; extras = r .extras + 1 })) us words
+    pub caught-label : {h : Head} → h ≡ headOf (frameAt (k - 1) words)
+        → (h .word0 < length (programOf s)) × IsLabel (length (functionAt s (h .word0) .blocks)) (h .word1)
+    caught-label eh = let S = frame-safe caught-below eh in (S .function, (rw eh (unwinding .1), S .handler))
+
+    pub raise-caught : {n : ℕ} {h : Head} {us : List ℤ} {q : Regs} → operationAt s (r .at) ≡ Raise n → r .handler ≡ 0 → h ≡ headOf (frameAt (k - 1) words)
+        → us ≡ lay 0 (take 32 (drop (48 * (k - 1) + 4) words)) vs → q ≡ startRegs s (h .word0) (h .word1) (k - 1) (r .extras + 1) → StepResult s limit r vs words (Next q) us words
     unfolding stateOf
-    raise-caught {h = h} {us = us} e z eh em eu eb ea =
+    raise-caught {h = h} {us = us} e z eh eu eq =
         let l : k - 1 < r .waiting = caught-below in
-        let F = frame-safe l eh em in
-        let o : 1 ≤ h .word1 = rw eh (unwinding .1) in
-        let E : Entry L (h .word0) (h .word1) = entry L (h .word0) (h .word1) (F .function) (o, F .handler) in
-        rw (eb, ea)
-        (moved L H
+        let S = frame-safe l eh in
+        let i : IsLabel (length (functionAt s (h .word0) .blocks)) (h .word1) = caught-label eh .1 in
+        rw eq
+        (moved F H
         (out e z
         ∙ (unwinding .2
-        ∙ (ap (λ (f : Frame). unwound (programOf s) (f ∷ framesOf s words (k - 1))) (frame-is l eh em eu)
-        ∙ (unwound-guarded (programOf s) (h .word0) (h .word1) (restAt s (h .word2)) (take (varsOf s (h .word0)) us) (h .word3) (framesOf s words (k - 1)) o
-        ∙ E .enters (take (varsOf s (h .word0)) us) (framesOf s words (k - 1))))))
-        (E .stands) (λ i x. H .frames i (omega arith)) (us-long l eh em eu) refl refl (ap (λ (i : ℕ). r .extras + i) (sym (out-extra e z ∙ unwinding .3))))
+        ∙ (ap (λ (f : Frame). unwound (programOf s) (f ∷ framesOf s words (k - 1))) (frame-is l eh eu)
+        ∙ (unwound-guarded (programOf s) (h .word0) (h .word1) (restAt s (h .word2)) (take (varsOf s (h .word0)) us) (h .word3) (framesOf s words (k - 1)) (i .0)
+        ∙ enters F (S .function) i (take (varsOf s (h .word0)) us) (framesOf s words (k - 1))))))
+        (F .start (h .word0) (h .word1) (S .function) (i .1)) (λ j x. H .frames j (omega arith)) (us-long l eh eu) refl refl (ap (λ (j : ℕ). r .extras + j) (sym (out-extra e z ∙ unwinding .3))))

@@ -1,7 +1,6 @@
--- One step of the bench. Definitions, in reading order: the tables that the machine goes by, what its registers and words stand for.
-pub mod MachineTables
+-- One step of the bench. Definition: Machine (what registers and words stand for, what holds between steps, what a step gives).
 pub mod Machine
--- Laws: of the file and the tables, of the operations that read no frame, of return and raise, of a call.
+-- Laws: of the operations that stand in a file, of the operations that read no frame, of return and raise, of a call.
 pub mod StandsLaws
 pub mod StepLaws
 pub mod FrameStepLaws

@@ -4,20 +4,31 @@ use mathlib.Core.Path.{_≡_}
 use mathlib.Core.List.{List, [], _∷_}
 use lib.IntN.{ℤ}
 use lib.ListN.{length, getD, take, drop}
-use Rattle.semantics.specs.Program.{functionOf}
-use Rattle.semantics.specs.Run.{End, value, uncaught, Outcome, next, end, tooDeep, stuck}
+use Rattle.semantics.specs.Program.{FunctionNumber, Label, Function, variables, functionOf}
+use Rattle.semantics.specs.Run.{Outcome, next, end, tooDeep}
 use Rattle.semantics.specs.Bench.{Frame, frame, State, state, step}
 use Rattle.semantics.specs.Extras.{extra}
 use Rattle.semantics.specs.WellFormed.{WellFormedState}
-use Rattle.memory.specs.declared.Head.{Head}
 use Rattle.memory.specs.Frame.{frameAt, headOf, HeadFits, valuesOf}
+use Rattle.runs.specs.Stopped.{endAs}
 use Rattle.procedure_file.specs.Check.{programOf}
 use Rattle.procedure_layout.specs.Rest.{restAt}
 use Rattle.bench_step.specs.declared.step.Regs.{Regs}
 use Rattle.bench_step.specs.declared.step.Step.{Step}
-use Rattle.bench_step.specs.declared.step.Step.the-variants.{Next, Value, Uncaught, Deep}
-use Rattle.bench_step.specs.MachineTables.{varsOf}
+use Rattle.bench_step.specs.declared.step.Step.the-variants.{Next, Ended, Deep}
+use Rattle.procedure_file.specs.Places.{startOf, handlerOf}
 use Rattle.procedure_file.specs.FileInvariant.{Stands}
+
+abbrev pub functionAt : List ℕ → FunctionNumber → Function
+functionAt s f = functionOf (programOf s) f
+
+abbrev pub varsOf : List ℕ → FunctionNumber → ℕ
+varsOf s f = variables (functionAt s f)
+
+-- The registers where the block with label l of function f starts; label 0 is the entry block.
+abbrev pub startRegs : List ℕ → FunctionNumber → Label → ℕ → ℕ → Regs
+startRegs s f l waiting extras =
+    record { function = f; handler = handlerOf (functionAt s f) l; at = startOf (programOf s) f l; waiting = waiting; extras = extras }
 
 -- The frame that 48 words stand for: function, handler, offset of the next operation, result variable; then the variables.
 abbrev pub frameOf : List ℕ → List ℤ → Frame
@@ -51,15 +62,13 @@ pub record Invariant (s : List ℕ) (limit : ℕ) (r : Regs) (vs words : List �
 -- The outcome that a step's answer stands for.
 abbrev pub outcomeOf : List ℕ → Step → List ℤ → List ℤ → Outcome State
 outcomeOf s (Next r) vs words = next (stateOf s r vs words)
-outcomeOf s (Value z) vs words = end (value z)
-outcomeOf s Uncaught vs words = end uncaught
+outcomeOf s (Ended e) vs words = end (endAs e)
 outcomeOf s Deep vs words = tooDeep
 
 -- What holds after a step.
 abbrev pub InvariantAfter : List ℕ → ℕ → Regs → List ℤ → List ℤ → Step → List ℤ → List ℤ → Type 0
 InvariantAfter s limit r vs words (Next q) vs′ words′ = Invariant s limit q vs′ words′ × (q .extras ≡ r .extras + extra (programOf s) (stateOf s r vs words))
-InvariantAfter s limit r vs words (Value z) vs′ words′ = extra (programOf s) (stateOf s r vs words) ≡ 0
-InvariantAfter s limit r vs words Uncaught vs′ words′ = extra (programOf s) (stateOf s r vs words) ≡ 0
+InvariantAfter s limit r vs words (Ended e) vs′ words′ = extra (programOf s) (stateOf s r vs words) ≡ 0
 InvariantAfter s limit r vs words Deep vs′ words′ = (vs′ ≡ vs) × (words′ ≡ words)
 
 -- One step of the machine is one step of the rules: the promise of every function that takes one.

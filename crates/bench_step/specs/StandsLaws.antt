@@ -1,25 +1,17 @@
--- What an operation that stands at an offset tells of its number and of the rest of its block, and what loading gives the machine.
-use Prim.Native.Nat.{ℕ, suc, _+_, _*_, _≤_, _<_}
+-- What an operation that stands at an offset tells of its number and of the rest of its block.
+use Prim.Native.Nat.{ℕ, _%_, _≤_}
 use native.Mathlib.Omega.{arith}
-use mathlib.Core.Path.{_≡_, refl, sym, ap, _∙_, subst}
+use mathlib.Core.Path.{_≡_, refl, sym, ap, _∙_}
 use mathlib.Core.List.{List}
-use mathlib.Core.Option.{some}
 use mathlib.Core.Logic.{_≢_}
 use lib.IntN.{ℤ}
-use lib.ListN.{length, getD, getElem?}
-use Rattle.semantics.specs.Program.{Labelled}
-use Rattle.semantics.specs.ListLaws.{at-below, getD-at}
 use Rattle.procedure_operations.specs.declared.operation.Operation.{Operation}
 use Rattle.procedure_operations.specs.declared.operation.Operation.the-variants.{Constant, Copy, Difference, Call, Goto, Return, Branch, Raise, Refused}
 use Rattle.procedure_fields.specs.Number.{numberOf}
 use Rattle.procedure_operations.specs.Operation.{operationAt}
-use Rattle.procedure_file.specs.Check.{programOf}
 use Rattle.procedure_layout.specs.Rest.{restAt, restFrom}
 use Rattle.procedure_layout.specs.After.{afterOf}
-use Rattle.procedure_file.specs.Places.{startOf, noLabelled}
 use Rattle.procedure_file.specs.FileInvariant.{FileInvariant, Stands}
-use Rattle.procedure_file.specs.Tables.{Tables}
-use Rattle.bench_step.specs.MachineTables.{functionAt, MachineTables, SomeTables}
 
 -- Where the block goes on behind an operation that does not end it.
 abbrev pub GoesOn : List ℕ → ℕ → Operation → Type 0
@@ -67,56 +59,26 @@ numbered {s} {f} {at} F S = by (operationAt s at) (goes-on F S)
     by (Raise n) g = (omega arith, omega arith)
     by (Refused e) g = absurd g
 
-from-five : {n : ℕ} → n ≢ 1 → n ≢ 2 → n ≢ 3 → n ≢ 4 → 1 ≤ n → 5 ≤ n
-from-five a b c d h = omega arith
+-- That number by its remainder modulo 8, which is 0 for the last.
+last-remainder : {k : ℕ} → k ≢ 1 → k ≢ 2 → k ≢ 3 → k ≤ 3 → k ≡ 0
+last-remainder a b c h = omega arith
 
-from-nine : {n : ℕ} → n ≢ 5 → n ≢ 6 → n ≢ 7 → n ≢ 8 → 5 ≤ n → 9 ≤ n
-from-nine a b c d h = omega arith
+small-remainder : (n : ℕ) → n % 8 ≢ 4 → n % 8 ≢ 5 → n % 8 ≢ 6 → n % 8 ≢ 7 → n % 8 ≤ 3
+small-remainder n a b c d = omega arith
 
--- No other number is met.
-pub no-number : {n m : ℕ} {A : Type 0} → n ≢ 1 → n ≢ 2 → n ≢ 3 → n ≢ 4 → n ≢ 5 → n ≢ 6 → n ≢ 7 → n ≢ 8 → n ≡ m → (1 ≤ m) × (m ≤ 8) → A
-no-number {n} a b c d e f g h q w =
-    absurd (by (from-nine e f g h (from-five a b c d (rw q (w .0)))) (rw q (w .1)))
-  where
-    by : 9 ≤ n → n ≤ 8 → ⊥
-    by k l = omega arith
+eighth : {n m : ℕ} → n ≡ m → (1 ≤ m) × (m ≤ 8) → n % 8 ≡ 0 → m ≡ 8
+eighth {m = m} q w e = let a : 1 ≤ m = w .0 in let b : m ≤ 8 = w .1 in omega arith
+
+module _ {s : List ℕ} {f at : ℕ} (F : FileInvariant s) (S : Stands s f at) {n : ℕ} (q : n ≡ numberOf (operationAt s at)) where
+  pub number-is : {k : ℕ} → n % 8 ≡ k → 1 ≤ k → numberOf (operationAt s at) ≡ k
+  number-is {k} e h = by (numberOf (operationAt s at)) q (numbered F S)
+    where
+      by : (m : ℕ) → n ≡ m → (1 ≤ m) × (m ≤ 8) → m ≡ k
+      by m p w = let a : 1 ≤ m = w .0 in let b : m ≤ 8 = w .1 in omega arith
+
+  pub last-number : n % 8 ≢ 1 → n % 8 ≢ 2 → n % 8 ≢ 3 → n % 8 ≢ 4 → n % 8 ≢ 5 → n % 8 ≢ 6 → n % 8 ≢ 7 → numberOf (operationAt s at) ≡ 8
+  last-number a b c d e f g = eighth q (numbered F S) (last-remainder a b c (small-remainder n d e f g))
 
 -- A value that went through a word.
 pub constant-as : {o : Operation} {x n : ℕ} {i v : ℤ} → o ≡ Constant x i n → v ≡ i → o ≡ Constant x v n
 constant-as {x = x} {n = n} e q = e ∙ ap (λ (z : ℤ). Constant x z n) (sym q)
-
-pub some-tables : {s starts handlers params locals : List ℕ} → MachineTables s starts handlers params locals → SomeTables s
-some-tables {starts = starts} {handlers = handlers} {params = params} {locals = locals} L = record { starts = starts; handlers = handlers; params = params; locals = locals; loaded = L }
-
--- The tables of an accepted file.
-module _ {s starts handlers params locals blocks : List ℕ} (F : FileInvariant s) (T : Tables (programOf s) starts handlers params locals blocks) where
-  entry : (f l : ℕ) → f < length (programOf s) → l ≤ length (functionAt s f .blocks) → getD starts (64 * f + l) 0 ≡ startOf (programOf s) f l
-  entry f l h k = T .blockEntries f l h k .start
-
-  first : (f : ℕ) → f < length (programOf s) → getD starts (64 * f) 0 ≡ startOf (programOf s) f 0
-  first f h = let q : 64 * f ≡ 64 * f + 0 = omega arith in ap (λ (i : ℕ). getD starts i 0) q ∙ entry f 0 h (omega arith)
-
-  there : (f l : ℕ) (B : Labelled) → getElem? (functionAt s f .blocks) l ≡ some B → suc l ≤ length (functionAt s f .blocks)
-  there f l B e = at-below (functionAt s f .blocks) l B e
-
-  is-block : (f l : ℕ) (B : Labelled) → getElem? (functionAt s f .blocks) l ≡ some B → getD (functionAt s f .blocks) l noLabelled ≡ B
-  is-block f l B e = getD-at (functionAt s f .blocks) l B noLabelled e
-
-  pub loaded : MachineTables s starts handlers params locals
-  loaded =
-      record {
-        invariant = F;
-        wellFormed = F .wellFormed;
-        functionBound = F .most;
-        fileBound = F .fileBound;
-        paramsBound = λ f h. F .counts f h .params;
-        localsBound = λ f h. F .counts f h .locals;
-        blocksBound = λ f h. F .counts f h .blocks;
-        paramsAt = λ f h. T .countEntries f h .paramsAre;
-        localsAt = λ f h. T .countEntries f h .localsAre;
-        entryAt = λ f h. subst (Stands s f) (sym (first f h)) (F .start f 0 h (omega arith));
-        entryIs = λ f h. ap (restAt s) (first f h) ∙ F .block f 0 h (omega arith);
-        labelAt = λ f l B h e. subst (Stands s f) (sym (entry f (suc l) h (there f l B e))) (F .start f (suc l) h (there f l B e));
-        labelIs = λ f l B h e. ap (restAt s) (entry f (suc l) h (there f l B e)) ∙ (F .block f (suc l) h (there f l B e) ∙ ap (λ (C : Labelled). C .block) (is-block f l B e));
-        handlerIs = λ f l B h e. T .blockEntries f (suc l) h (there f l B e) .handler ∙ ap (λ (C : Labelled). C .handler) (is-block f l B e);
-      }

@@ -10,12 +10,11 @@ use lib.IntN.{ℤ, pos}
 use lib.ListN.{length, getD, getElem?, set, take, drop, length-set}
 use lib.Seq.{take-set-lt, getD-take}
 use Rattle.semantics.specs.Value.{minus, atMost}
-use Rattle.semantics.specs.Program.{Label, Block, raise, Labelled, Program, variables}
+use Rattle.semantics.specs.Program.{Label, Block, Labelled, Program, variables}
 use Rattle.semantics.specs.Run.{next}
-use Rattle.semantics.specs.Bench.{Frame, State, state, enter, step}
+use Rattle.semantics.specs.Bench.{Frame, State, state, waiting, enter, step}
 use Rattle.semantics.specs.WellFormed.{IsLabel, WellFormedPlace}
 use Rattle.semantics.specs.Extras.{extra}
-use Rattle.semantics.specs.Statement.{waiting}
 use Rattle.semantics.specs.ListLaws.{at-getD}
 use Rattle.semantics.specs.SlotLaws.{given-some}
 use Rattle.semantics.specs.FollowCall.{step-wellFormed}
@@ -27,43 +26,25 @@ use Rattle.procedure_file.specs.Check.{programOf}
 use Rattle.procedure_layout.specs.Rest.{restFrom, restAt}
 use Rattle.bench_step.specs.declared.step.Regs.{Regs}
 use Rattle.bench_step.specs.declared.step.Step.the-variants.{Next}
-use Rattle.procedure_file.specs.FileInvariant.{Stands}
-use Rattle.bench_step.specs.MachineTables.{functionAt, varsOf, MachineTables}
-use Rattle.bench_step.specs.Machine.{framesOf, stateOf, FrameStands, Invariant, StepResult}
+use Rattle.procedure_file.specs.Places.{startOf, handlerOf}
+use Rattle.procedure_file.specs.FileInvariant.{FileInvariant, Stands}
+use Rattle.bench_step.specs.Machine.{functionAt, varsOf, startRegs, framesOf, stateOf, FrameStands, Invariant, StepResult}
 use Rattle.bench_step.specs.StandsLaws.{GoesOn, goes-on, rest-is}
 
 pub length-frames : (s : List ℕ) (words : List ℤ) (d : ℕ) → length (framesOf s words d) ≡ d
 length-frames s words zero = refl
 length-frames s words (suc d) = ap suc (length-frames s words d)
 
-module _ {s starts handlers params locals : List ℕ} (L : MachineTables s starts handlers params locals) where
+module _ {s : List ℕ} (F : FileInvariant s) where
   pub vars-bound : {f : ℕ} → f < length (programOf s) → varsOf s f ≤ 32
-  vars-bound {f} h = let p : functionAt s f .params ≤ 8 = L .paramsBound f h in let l : functionAt s f .locals ≤ 24 = L .localsBound f h in omega arith
+  vars-bound {f} h = let p : functionAt s f .params ≤ 8 = F .counts f h .params in let l : functionAt s f .locals ≤ 24 = F .counts f h .locals in omega arith
 
-  pub variables-are : {f : ℕ} → f < length (programOf s) → getD params f 0 + getD locals f 0 ≡ varsOf s f
-  variables-are {f} h = ap₂ _+_ (L .paramsAt f h) (L .localsAt f h)
-
-  -- The tables are asked for labels that are there.
-  pub label-safe : {f l : ℕ} → f < length (programOf s) → l ≤ length (functionAt s f .blocks) → 64 * f + l < 2048
-  label-safe {f} {l} h k = let w : length (programOf s) ≤ 32 = L .functionBound in let b : length (functionAt s f .blocks) ≤ 63 = L .blocksBound f h in omega arith
-
-  -- A label of function f, as the tables have it.
-  pub record Entry (f l : ℕ) : Type 0 where
-    pub stands : Stands s f (getD starts (64 * f + l) 0)
-    pub enters : (vs : List ℤ) (fs : List Frame) → enter (programOf s) f l vs fs ≡ next (state f (getD handlers (64 * f + l) 0) (restAt s (getD starts (64 * f + l) 0)) vs fs)
-
-  pub entry : (f l : ℕ) → f < length (programOf s) → IsLabel (length (functionAt s f .blocks)) l → Entry f l
-  entry f zero h k = absurd (omega arith)
-  entry f (suc l) h k =
-      let B : Labelled = getD (functionAt s f .blocks) l (record { handler = 0; block = raise }) in
-      let e : getElem? (functionAt s f .blocks) l ≡ some B = at-getD (functionAt s f .blocks) l (record { handler = 0; block = raise }) (k .1) in
-      record {
-        stands = L .labelAt f l B h e;
-        enters = λ vs fs.
-            given-some (λ (C : Labelled). next (state f (C .handler) (C .block) vs fs)) e
-            ∙ (ap (λ (x : ℕ). next (state f x (B .block) vs fs)) (sym (L .handlerIs f l B h e))
-            ∙ ap (λ (b : Block). next (state f (getD handlers (64 * f + suc l) 0) b vs fs)) (sym (L .labelIs f l B h e)));
-      }
+  -- To a label of function f.
+  pub enters : {f l : ℕ} → f < length (programOf s) → IsLabel (length (functionAt s f .blocks)) l → (vs : List ℤ) (fs : List Frame)
+      → enter (programOf s) f l vs fs ≡ next (state f (handlerOf (functionAt s f) l) (restAt s (startOf (programOf s) f l)) vs fs)
+  enters {f} {l} h k vs fs =
+      given-some (λ (B : Labelled). next (state f (B .handler) (B .block) vs fs)) (F .labelled f l k)
+      ∙ ap (λ (b : Block). next (state f (handlerOf (functionAt s f) l) b vs fs)) (sym (F .block f l h (k .1)))
 
   module _ {limit : ℕ} {r : Regs} {vs words : List ℤ} (H : Invariant s limit r vs words) where
     abbrev pub P : Program
@@ -84,7 +65,7 @@ module _ {s starts handlers params locals : List ℕ} (L : MachineTables s start
 
     known : {o : Operation} → operationAt s (r .at) ≡ o → stateOf s r vs words ≡ before o
     unfolding stateOf
-    known {o} e = ap (λ (x : Block). state f (r .handler) x now-vars now-frames) (rest-is (L .invariant) (r .at) o e)
+    known {o} e = ap (λ (x : Block). state f (r .handler) x now-vars now-frames) (rest-is (F) (r .at) o e)
 
     pub stepped : {o : Operation} → operationAt s (r .at) ≡ o → step P limit (stateOf s r vs words) ≡ step P limit (before o)
     stepped e = ap (step P limit) (known e)
@@ -97,7 +78,7 @@ module _ {s starts handlers params locals : List ℕ} (L : MachineTables s start
     place = H .good .0
 
     pub placed : {o : Operation} → operationAt s (r .at) ≡ o → WellFormedPlace P f (r .handler) (restFrom s (r .at) o (restAt s)) now-vars
-    placed {o} e = subst (λ (x : Block). WellFormedPlace P f (r .handler) x now-vars) (rest-is (L .invariant) (r .at) o e) place
+    placed {o} e = subst (λ (x : Block). WellFormedPlace P f (r .handler) x now-vars) (rest-is (F) (r .at) o e) place
 
     pub there : r .function < length (programOf s)
     there = place .function
@@ -113,7 +94,7 @@ module _ {s starts handlers params locals : List ℕ} (L : MachineTables s start
         → ((d : ℕ) → d < q .waiting → FrameStands s (frameAt d words′)) → length vs′ ≡ 32 → length words′ ≡ length words → drop (48 * limit) words′ ≡ drop (48 * limit) words
         → q .extras ≡ r .extras + extra P (stateOf s r vs words) → StepResult s limit r vs words (Next q) vs′ words′
     moved {q} {vs′} {words′} e st fr lv lw k x =
-        let w = step-wellFormed P (L .wellFormed) limit (stateOf s r vs words) (stateOf s q vs′ words′) (H .good) e in
+        let w = step-wellFormed P (F .wellFormed) limit (stateOf s r vs words) (stateOf s q vs′ words′) (H .good) e in
         record {
           outcome = sym e;
           held = (
@@ -149,7 +130,7 @@ module _ {s starts handlers params locals : List ℕ} (L : MachineTables s start
     behind n = record { function = r .function; handler = r .handler; at = n; waiting = r .waiting; extras = r .extras }
 
     pub on : {o : Operation} → operationAt s (r .at) ≡ o → GoesOn s (r .function) o
-    on e = subst (GoesOn s (r .function)) e (goes-on (L .invariant) (H .here))
+    on e = subst (GoesOn s (r .function)) e (goes-on (F) (H .here))
 
     pub no-extras : {k : ℕ} → k ≡ 0 → r .extras ≡ r .extras + k
     no-extras z = sym (ap (λ (k : ℕ). r .extras + k) z ∙ add-zero (r .extras))
@@ -189,36 +170,38 @@ module _ {s starts handlers params locals : List ℕ} (L : MachineTables s start
     difference-done {x} e ev eq = assigned x e ev eq (placed e .block .0) (on e) refl (rw (value-is (placed e .block .1), value-is (placed e .block .2)))
 
     -- To a label of the running function, with k extras.
-    abbrev pub entered : ℕ → ℕ → Regs
-    entered l k = record { function = r .function; handler = getD handlers (64 * r .function + l) 0; at = getD starts (64 * r .function + l) 0; waiting = r .waiting; extras = k }
-
     pub to-label : {o : Operation} {l k : ℕ} {q : Regs} → operationAt s (r .at) ≡ o → IsLabel (length (functionAt s (r .function) .blocks)) l → step P limit (before o) ≡ enter P f l now-vars now-frames
-        → k ≡ r .extras + extra P (before o) → q ≡ entered l k → StepResult s limit r vs words (Next q) vs words
+        → k ≡ r .extras + extra P (before o) → q ≡ startRegs s (r .function) l (r .waiting) k → StepResult s limit r vs words (Next q) vs words
     unfolding stateOf
     to-label {l = l} e il m x eq =
-        let E : Entry (r .function) l = entry (r .function) l there il in
-        rw eq (moved (stepped e ∙ (m ∙ E .enters now-vars now-frames)) (E .stands) (H .frames) (H .variables) refl refl (x ∙ ap (λ (k : ℕ). r .extras + k) (sym (extra-is e))))
+        rw eq (moved (stepped e ∙ (m ∙ enters there il now-vars now-frames)) (F .start (r .function) l there (il .1)) (H .frames) (H .variables) refl refl
+        (x ∙ ap (λ (k : ℕ). r .extras + k) (sym (extra-is e))))
 
     -- 5 goto
-    pub goto-safe : {l n : ℕ} → operationAt s (r .at) ≡ Goto l n → 64 * r .function + l < 2048
-    goto-safe e = label-safe there (placed e .block .1)
+    pub goto-safe : {l n : ℕ} → operationAt s (r .at) ≡ Goto l n → (r .function < length (programOf s)) × IsLabel (length (functionAt s (r .function) .blocks)) l
+    goto-safe e = (there, placed e .block)
 
-    pub goto-done : {l n : ℕ} {q : Regs} → operationAt s (r .at) ≡ Goto l n → q ≡ entered l (r .extras) → StepResult s limit r vs words (Next q) vs words
+    pub goto-done : {l n : ℕ} {q : Regs} → operationAt s (r .at) ≡ Goto l n → q ≡ startRegs s (r .function) l (r .waiting) (r .extras) → StepResult s limit r vs words (Next q) vs words
     unfolding step
     goto-done e eq = to-label e (placed e .block) refl (no-extras refl) eq
 
     -- 7 branch
-    pub branch-safe : {y z l m n : ℕ} → operationAt s (r .at) ≡ Branch y z l m n → (y < 32) × (z < 32) × (64 * r .function + l < 2048) × (64 * r .function + m < 2048) × (1 ≤ m)
-    branch-safe e =
-        let w = placed e .block in
-        (below (w .0), below (w .1), label-safe there (w .2 .1), label-safe there (w .3 .1), w .3 .0)
+    pub record BranchSafe (y z l m : ℕ) : Type 0 where
+      pub left : y < 32
+      pub right : z < 32
+      pub function : r .function < length (programOf s)
+      pub least : IsLabel (length (functionAt s (r .function) .blocks)) l
+      pub other : IsLabel (length (functionAt s (r .function) .blocks)) m
+
+    pub branch-safe : {y z l m n : ℕ} → operationAt s (r .at) ≡ Branch y z l m n → BranchSafe y z l m
+    branch-safe e = let w = placed e .block in record { left = below (w .0); right = below (w .1); function = there; least = w .2; other = w .3 }
 
     chosen : {n : ℕ} (c : Bool) {l m : Label} → IsLabel n l → IsLabel n m → IsLabel n (cond c l m)
     chosen true a b = a
     chosen false a b = b
 
     pub branch-done : {y z l m n : ℕ} {a b : ℤ} {c c′ : Bool} {q : Regs} → operationAt s (r .at) ≡ Branch y z l m n → a ≡ getD vs y (pos 0) → b ≡ getD vs z (pos 0) → c ≡ atMost a b → c ≡ c′
-        → q ≡ entered (cond c′ l m) (r .extras + 1) → StepResult s limit r vs words (Next q) vs words
+        → q ≡ startRegs s (r .function) (cond c′ l m) (r .waiting) (r .extras + 1) → StepResult s limit r vs words (Next q) vs words
     unfolding step
     branch-done {y} {z} {c′ = c′} e ea eb ec et eq =
         let w = placed e .block in

@@ -1,6 +1,7 @@
 -- `bench_step::step::raise_step` meets its contract.
 use native.Mathlib.Omega.{arith}
-use Rattle.bench_step.specs.FrameStepLaws.{raise-safe, raise-here, raise-uncaught}
+use Rattle.procedure_file.specs.LoadedLaws.{loaded-invariant}
+use Rattle.bench_step.specs.FrameStepLaws.{here-safe, raise-here, raise-uncaught}
 use borrow.Author.Needs.{needs}
 use Rattle.bench_step.proofs.step.raise_step.Statement.{statement}
 use Rattle.bench_step.proofs.step.raise_step.Tie as tie
@@ -8,12 +9,12 @@ use Rattle.bench_step.proofs.step.raise_step.Tie as tie
 entered-requires : tie.Need-entered-requires
 entered-requires c κs =
     let entry = c .before .before in
-    raise-safe (entry .pre .0) (entry .pre .1 .0) (entry .pre .1 .1 .0)
+    (entry .pre .0 .tabled, here-safe (loaded-invariant (entry .pre .0)) (entry .pre .1 .0) (entry .pre .1 .1 .0) (c .if1 .taken))
 
 returns : tie.Need-returns
 returns c =
     let entry = c .before .before .before in
-    raise-here (entry .pre .0) (entry .pre .1 .0) (entry .pre .1 .1 .0) (c .before .if1 .taken) (c .entered .ensures)
+    raise-here (loaded-invariant (entry .pre .0)) (entry .pre .1 .0) (entry .pre .1 .1 .0) (c .before .if1 .taken) (c .entered .ensures)
 
 guarded-requires : tie.Need-guarded-requires
 guarded-requires c κs = search needs
@@ -22,7 +23,7 @@ returns-2 : tie.Need-returns-2
 returns-2 c =
     let at-if1 = c .before .before .before in
     let entry = at-if1 .before .before in
-    raise-uncaught (entry .pre .0) (entry .pre .1 .0) (entry .pre .1 .1 .0) (at-if1 .if1 .left) (c .before .guarded .ensures) (c .if2 .taken)
+    raise-uncaught (loaded-invariant (entry .pre .0)) (entry .pre .1 .0) (entry .pre .1 .1 .0) (at-if1 .if1 .left) (c .before .guarded .ensures) (c .if2 .taken)
 
 caught-step-requires : tie.Need-caught-step-requires
 caught-step-requires c κs =

@@ -1,7 +1,6 @@
 -- `bench_step::step::return_step` meets its contract.
 use Prim.Native.Nat.{_-_}
 use native.Mathlib.Omega.{arith}
-use mathlib.Core.Path.{refl}
 use mir.Facts.{toZ-ofZ}
 use mir.Syntax.{w32}
 use Rattle.bench_step.specs.FrameStepLaws.{frame-ready, FrameSafe, frame-safe, return-safe, return-value, last-below, return-frame}
@@ -10,12 +9,10 @@ use Rattle.bench_step.proofs.step.return_step.Statement.{statement}
 use Rattle.bench_step.proofs.step.return_step.Tie as tie
 
 -- What is known of the frame that is read.
-frame-read : (c : tie.After-variables) → FrameSafe (c .before .before .before .before .before .pre .0) (c .before .before .before .before .before .pre .1 .0)
-    (c .before .before .before .before .before .args .r .waiting - 1) (c .before .head-at .result) (c .variables .result)
+frame-read : (c : tie.After-head-at) → FrameSafe (c .before .before .before .before .pre .0) (c .before .before .before .before .pre .1 .0) (c .before .before .before .before .args .r .waiting - 1) (c .head-at .result)
 frame-read c =
-    let at-if1 = c .before .before in
-    let entry = at-if1 .before .before .before in
-    frame-safe (entry .pre .0) (entry .pre .1 .0) (last-below (entry .pre .0) (entry .pre .1 .0) (at-if1 .if1 .left)) (c .before .head-at .ensures) (c .variables .ensures)
+    let entry = c .before .before .before .before in
+    frame-safe (entry .pre .0) (entry .pre .1 .0) (last-below (entry .pre .0) (entry .pre .1 .0) (c .before .if1 .left)) (c .head-at .ensures)
 
 mul-v : tie.Need-mul-v
 mul-v c = search needs
@@ -38,11 +35,6 @@ head-at-requires c κs =
     let entry = c .before .before .before in
     frame-ready (entry .pre .1 .0) (last-below (entry .pre .0) (entry .pre .1 .0) (c .if1 .left))
 
-variables-requires : tie.Need-variables-requires
-variables-requires c κs =
-    let entry = c .before .before .before .before in
-    frame-safe (entry .pre .0) (entry .pre .1 .0) (last-below (entry .pre .0) (entry .pre .1 .0) (c .before .if1 .left)) (c .head-at .ensures) refl .functionBound
-
 mul-from : tie.Need-mul-from
 mul-from c = search needs
 
@@ -50,9 +42,7 @@ add-from : tie.Need-add-from
 add-from c = search needs
 
 copy-requires : tie.Need-copy-requires
-copy-requires c κs =
-    let F = frame-read (c .before) in
-    (F .there, omega (arith, F .variableBound, F .variableCount))
+copy-requires c κs = frame-read (c .before) .copied
 
 mul-v-2 : tie.Need-mul-v-2
 mul-v-2 c = omega (arith, frame-read (c .before .before) .result)
@@ -62,13 +52,12 @@ element-set-from-v c = frame-read (c .before .before) .result
 
 returns-2 : tie.Need-returns-2
 returns-2 c =
-    let at-variables = c .before .before in
-    let at-head-at = at-variables .before in
+    let at-head-at = c .before .before in
     let at-if1 = at-head-at .before in
     let at-v = at-if1 .before in
     let entry = at-v .before .before in
     return-frame (entry .pre .0) (entry .pre .1 .0) (entry .pre .1 .1) (toZ-ofZ {w = w32} (record { sfits = at-v .v .given })) (at-if1 .if1 .left)
-    (at-head-at .head-at .ensures) (at-variables .variables .ensures) (c .copy .ensures)
+    (at-head-at .head-at .ensures) (c .copy .ensures)
 
 pub return-step-spec : {M : Type 1} → statement M
 return-step-spec =
@@ -79,7 +68,6 @@ return-step-spec =
     returns
     sub-d
     head-at-requires
-    variables-requires
     mul-from
     add-from
     copy-requires
