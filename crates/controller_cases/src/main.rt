@@ -9,43 +9,19 @@ use case_io::input::read_part;
 use case_io::input::read_whole;
 use case_io::print::numbered;
 use case_io::print::say;
-use case_io::print::value;
 use case_io::words::UNTOUCHED;
 use case_io::words::lent;
 use case_io::words::print_frames;
 use case_io::words::print_refused;
 use case_io::words::print_rest;
+use case_io::words::print_stop;
 use casts::double_word;
 use casts::pair;
 use casts::triple;
 use casts::word;
 use controller::machine::Answer;
-use controller::machine::Stopped;
 use controller::machine::run;
 use parsing::Checked;
-
-// How the run stopped; the answer is how many records are in use then.
-fn print_stop(s: Stopped, records: usize) -> usize {
-    match s {
-        Stopped::Value(z) => {
-            say(b"value");
-            value(z);
-            0
-        }
-        Stopped::Uncaught => {
-            say(b"uncaught");
-            0
-        }
-        Stopped::Spent => {
-            say(b"spent");
-            records
-        }
-        Stopped::Deep => {
-            say(b"deep");
-            records
-        }
-    }
-}
 
 // The line of a record of the input: of each record in use its first word, the place of its tag.
 fn print_answer(a: Answer, words: &[i32], depth: usize) {
