@@ -1,9 +1,9 @@
--- The turns of the loops over a block's operations: writing, and counting.
-use Prim.Native.Nat.{ℕ, zero, suc, _+_, _*_, _≤_, _<_}
+-- The turns of the loop that writes a block's operations.
+use Prim.Native.Nat.{ℕ, _+_, _≤_, _<_}
 use native.Mathlib.Omega.{arith}
 use mathlib.Core.Path.{_≡_, refl, sym, ap, _∙_, subst}
-use mathlib.Core.List.{List, [], _∷_, _++_, append-nil}
-use lib.ListN.{length, getD, length-append}
+use mathlib.Core.List.{List, [], _∷_, _++_}
+use lib.ListN.{length}
 use Rattle.parsing.specs.declared.Refusal.{Refusal}
 use lib.IntN.{ℤ}
 use Rattle.parsing.specs.Fields.{valueAt}
@@ -16,30 +16,28 @@ use Rattle.procedure_layout.specs.declared.layout.After.the-variants.{Onward, E
 use Rattle.procedure_operations.specs.Operation.{operationAt}
 use Rattle.procedure_layout.specs.After.{afterOf}
 use Rattle.procedure_file.specs.Check.{programOf}
-use Rattle.translator_bytes.specs.Bytes.{tabled, operationBytes, operationSize}
-use Rattle.translator.specs.Parts.{bytesAt}
+use Rattle.translator_bytes.specs.Bytes.{tabled, operationBytes}
+use Rattle.translator_sizes.specs.Parts.{bytesAt}
 use Rattle.translator_bytes.specs.Writes.{Room, Wrote}
-use Rattle.translator_bytes.specs.WriteLaws.{Rest, rest-none, rest-as, rest-room, rest-more, rest-done, room-front}
-use Rattle.translator.specs.Standing.{OperationStands, Numbered, Placed, CountInTable, BlockSize}
-use Rattle.translator.specs.OperationLaws.{Fine, variables-bound, within, fine, of-bound, operation-size, same-numbers, following, split-at}
+use Rattle.translator_bytes.specs.WriteLaws.{Rest, rest-none, rest-as, rest-more, rest-done, room-front}
+use Rattle.translator.specs.Standing.{Numbered, Placed}
+use Rattle.translator_sizes.specs.OperationLaws.{Fine, fine, following, split-at}
+use Rattle.translator_sizes.specs.CountLaws.{goes-on, never-halts}
+use Rattle.procedure_layout.specs.Layout.{argumentsAt}
+use Rattle.translator_bytes.specs.Bytes.{callBytes}
 
--- An operation does not end the block: the next one stands where it leads.
-pub goes-on : {s : List ℕ} {v at m : ℕ} → OperationStands s v at → afterOf (operationAt s at) ≡ Onward m → OperationStands s v m
-goes-on {s} {v} {at} {m} H e = record { invariant = H .invariant; function = H .function; stands = H .invariant .next (H .function) at m (H .stands) e; vars = H .vars }
-
-pub never-halts : {s : List ℕ} {v at : ℕ} {r : Refusal} {A : Type 0} → OperationStands s v at → afterOf (operationAt s at) ≡ Halted r → A
-never-halts {s} {v} {at} {r} {A} H e = go (operationAt s at) (fine H) e
-  where
-    go : (o : Operation) → Fine s at o → afterOf o ≡ Halted r → A
-    go (Constant x i next) f q = let z : _≡_ {A = ℕ} 0 1 = cc in absurd (omega arith)
-    go (Copy x y next) f q = let z : _≡_ {A = ℕ} 0 1 = cc in absurd (omega arith)
-    go (Difference x y z next) f q = let z : _≡_ {A = ℕ} 0 1 = cc in absurd (omega arith)
-    go (Call x g n next) f q = let z : _≡_ {A = ℕ} 0 1 = cc in absurd (omega arith)
-    go (Goto l next) f q = let z : _≡_ {A = ℕ} 0 1 = cc in absurd (omega arith)
-    go (Return x next) f q = let z : _≡_ {A = ℕ} 0 1 = cc in absurd (omega arith)
-    go (Branch y z l m next) f q = let z : _≡_ {A = ℕ} 0 1 = cc in absurd (omega arith)
-    go (Raise next) f q = let z : _≡_ {A = ℕ} 0 1 = cc in absurd (omega arith)
-    go (Refused r) f q = absurd f
+-- The table gives the same bytes as the translation's numbers.
+pub same-numbers : (s ns : List ℕ) → Numbered s ns → (base v h at : ℕ) (o : Operation) → Fine s at o
+    → operationBytes (tabled ns) base v h s at o ≡ operationBytes (number (programOf s)) base v h s at o
+same-numbers s ns N base v h at (Constant x i next) f = refl
+same-numbers s ns N base v h at (Copy x y next) f = refl
+same-numbers s ns N base v h at (Difference x y z next) f = refl
+same-numbers s ns N base v h at (Call x g n next) f = ap (λ (k : ℕ). callBytes base v h x k n (argumentsAt s at n)) (N g (f .1))
+same-numbers s ns N base v h at (Goto l next) f = refl
+same-numbers s ns N base v h at (Return x next) f = refl
+same-numbers s ns N base v h at (Branch y z l m next) f = refl
+same-numbers s ns N base v h at (Raise next) f = refl
+same-numbers s ns N base v h at (Refused r) f = refl
 
 -- Writing a block: after some operations.
 pub record Turn (s ns : List ℕ) (base v h start o₀ : ℕ) (d₀ : List ℕ) (at o : ℕ) (d : List ℕ) : Type 0 where
@@ -88,71 +86,6 @@ module _ {s ns : List ℕ} {base v h start o₀ : ℕ} {d₀ : List ℕ} {at o :
 
     pub turn-never : {f : Refusal} {A : Type 0} → a ≡ Halted f → A
     turn-never q = never-halts (T .placed .here) (after-is ∙ q)
-
--- Counting a block: n bytes for the operations passed.
-pub record Counting (s : List ℕ) (v h start at n : ℕ) : Type 0 where
-  pub here : OperationStands s v at
-  pub is : (base : ℕ) → n + length (bytesAt s base v h at) ≡ length (bytesAt s base v h start)
-  pub sizeBound : n ≤ 128 * at
-
-pub count-none : {s : List ℕ} {v h start : ℕ} → OperationStands s v start → Counting s v h start start 0
-count-none {s} {v} {h} {start} H = record { here = H; is = λ base. omega arith; sizeBound = omega arith }
-
-module _ {s : List ℕ} {v h start at n : ℕ} (T : Counting s v h start at n) {x : Operation} (e : x ≡ operationAt s at) where
-  pub count-asks : (v ≤ 32) × CountInTable x
-  count-asks = (variables-bound (T .here), subst CountInTable (sym e) (of-bound s at (operationAt s at) (fine (T .here))))
-
-  pub count-bound : n ≤ 4194304
-  count-bound =
-      let k : n ≤ 128 * at = T .sizeBound in
-      let i : at < length s = within (T .here) in
-      let j : length s ≤ 32768 = T .here .invariant .fileBound in
-      omega arith
-
-  module _ {k : ℕ} (ek : k ≡ operationSize v h x) (operationBound : k ≤ 128) {a : After} (ea : a ≡ afterOf x) where
-    after-was : afterOf (operationAt s at) ≡ a
-    after-was = ap afterOf (sym e) ∙ sym ea
-
-    sizes-are : (base : ℕ) → n + k + length (following a (λ m. bytesAt s base v h m)) ≡ length (bytesAt s base v h start)
-    sizes-are base =
-        let H = T .here in
-        let w = operationBytes (number (programOf s)) base v h s at (operationAt s at) in
-        let rest = following (afterOf (operationAt s at)) (λ m. bytesAt s base v h m) in
-        let p : length (bytesAt s base v h at) ≡ length w + length rest = ap length (split-at base h H) ∙ length-append w rest in
-        let q : length w ≡ k = operation-size (number (programOf s)) base v h s at (operationAt s at) (fine H) ∙ (ap (operationSize v h) (sym e) ∙ sym ek) in
-        let t : n + length (bytesAt s base v h at) ≡ length (bytesAt s base v h start) = T .is base in
-        let u : length rest ≡ length (following a (λ m. bytesAt s base v h m)) = ap (λ (b : After). length (following b (λ m. bytesAt s base v h m))) after-was in
-        omega arith
-
-    pub count-next : {m : ℕ} → a ≡ Onward m → Counting s v h start m (n + k)
-    count-next {m} q =
-        let H = T .here in
-        let f = H .invariant .forward (H .function) at m (H .stands) (after-was ∙ q) in
-        let j : at < m = f .0 in
-        let g : n ≤ 128 * at = T .sizeBound in
-        record {
-          here = goes-on H (after-was ∙ q);
-          is = λ base. subst (λ (b : After). n + k + length (following b (λ i. bytesAt s base v h i)) ≡ length (bytesAt s base v h start)) q (sizes-are base);
-          sizeBound = omega arith;
-        }
-
-    pub count-moves : {m : ℕ} → a ≡ Onward m → (at < m) × (m ≤ length s)
-    count-moves {m} q = let H = T .here in H .invariant .forward (H .function) at m (H .stands) (after-was ∙ q)
-
-    pub count-done : {m : ℕ} → a ≡ Ended m → BlockSize s v h start (n + k)
-    count-done {m} q =
-        let g : n ≤ 128 * at = T .sizeBound in
-        let i : at < length s = within (T .here) in
-        let j : length s ≤ 32768 = T .here .invariant .fileBound in
-        record {
-          is = λ base.
-              let t : n + k + 0 ≡ length (bytesAt s base v h start) = subst (λ (b : After). n + k + length (following b (λ i. bytesAt s base v h i)) ≡ length (bytesAt s base v h start)) q (sizes-are base) in
-              omega arith;
-          sizeBound = omega arith;
-        }
-
-    pub count-never : {f : Refusal} {A : Type 0} → a ≡ Halted f → A
-    count-never q = never-halts (T .here) (after-was ∙ q)
 
 -- The arm of an operation.
 pub arm-fine : {s ns : List ℕ} {base v at : ℕ} {x y : Operation} → Placed s ns base v at → x ≡ operationAt s at → x ≡ y → Fine s at y

@@ -11,8 +11,8 @@ ghost use Rattle.procedure_operations.specs.Operation.{operationAt};
 ghost use Rattle.translator_bytes.specs.Writes.{Room, Wrote};
 ghost use Rattle.translator_bytes.specs.Bytes.{tabled, callBytes, operationBytes};
 ghost use Rattle.translator_bytes.specs.Writes.{Arguments};
-ghost use Rattle.procedure_layout.specs.Layout.{argumentsAt};
-ghost use Rattle.translator.specs.Parts.{bytesAt};
+ghost use Rattle.procedure_layout.specs.Layout.{maxFunctions, maxVariables, argumentsAt};
+ghost use Rattle.translator_sizes.specs.Parts.{bytesAt};
 ghost use Rattle.translator.specs.Standing.{Placed};
 
 // 4 call: the callee's number in the translation is taken from the table.
@@ -29,7 +29,7 @@ fn put_called(
     out: &mut [u8],
     o: usize,
 ) -> usize
-    requires { ⌜ (base ≤ 2048) × (v ≤ 32) × (x < 32) × (n ≤ 32) × (f < 32) × Arguments (now file) (at + 4) n ⌝ }
+    requires { ⌜ (base ≤ 2048) × (v ≤ maxVariables) × (x < maxVariables) × (n ≤ maxVariables) × (f < maxFunctions) × Arguments (now file) (at + 4) n ⌝ }
     requires { ⌜ Room o (callBytes base v h x (tabled (now numbers) f) n (argumentsAt (now file) at n)) (now out) ⌝ }
     ensures { λ r. ⌜ Wrote o (callBytes base v h x (tabled (now (numbers .entry)) f) n (argumentsAt (now (file .entry)) at n)) (now (out .entry)) r (now (out .exit)) ⌝ }
 {
@@ -56,27 +56,19 @@ fn put_operation(
     ensures { λ r. ⌜ Wrote o (operationBytes (tabled (now (numbers .entry))) base v h (now (file .entry)) at x) (now (out .entry)) r (now (out .exit)) ⌝ }
 {
     match x {
-        Operation::Constant {
-            target,
-            value: _,
-            next: _,
-        } => jumps::put_constant(file, at + 2, out, o, target),
-        Operation::Copy {
-            target,
-            from,
-            next: _,
-        } => jumps::put_copy(out, o, target, from),
+        Operation::Constant { target, .. } => jumps::put_constant(file, at + 2, out, o, target),
+        Operation::Copy { target, from, .. } => jumps::put_copy(out, o, target, from),
         Operation::Difference {
             target,
             left,
             right,
-            next: _,
+            ..
         } => jumps::put_difference(out, o, target, left, right),
         Operation::Call {
             target,
             function,
             count,
-            next: _,
+            ..
         } => put_called(
             file,
             numbers,
@@ -90,16 +82,16 @@ fn put_operation(
             out,
             o,
         ),
-        Operation::Goto { label, next: _ } => jumps::put_label_jump(out, o, base, v, label),
-        Operation::Return { variable, next: _ } => jumps::put_return(out, o, variable),
+        Operation::Goto { label, .. } => jumps::put_label_jump(out, o, base, v, label),
+        Operation::Return { variable, .. } => jumps::put_return(out, o, variable),
         Operation::Branch {
             left,
             right,
             least,
             other,
-            next: _,
+            ..
         } => jumps::put_branch(out, o, base, v, left, right, least, other),
-        Operation::Raise { next: _ } => jumps::put_raise(out, o, base, v, h),
+        Operation::Raise { .. } => jumps::put_raise(out, o, base, v, h),
         Operation::Refused(_) => o,
     }
 }

@@ -1,15 +1,22 @@
 // The translator: a procedure file becomes a translated file.
 mod blocks;
-mod parts;
-mod sizes;
+pub mod parts;
 
 use parsing::Checked;
 use parsing::Refusal;
-use procedure_file::lookup;
+use parsing::or_else;
+use parsing::refusals;
+use parsing::refused_unless;
+use procedure_file::check::load;
+use procedure_file::table::functions_of;
+use target_layout::layout::FILE_LIMIT;
+use translator_sizes::function_size;
 ghost use mathlib.Core.Path.{_≡_};
 ghost use lib.ListN.{length};
+ghost use Rattle.parsing.specs.Parser.{verdictOf};
+ghost use Rattle.runs.specs.Tells.{tellsBy};
 ghost use Rattle.procedure_file.specs.Loaded.{Loaded};
-ghost use Rattle.translator.specs.Translated.{translationOf, outcomeOf, fitting, leaves, answerOf, outputOf};
+ghost use Rattle.translator.specs.Translated.{translationOf, toldBy, roomVerdict, leaves, answerOf, outputOf};
 
 // The translator's answer: the length of the translation, or a refusal.
 pub enum Translated {
@@ -17,62 +24,54 @@ pub enum Translated {
     Refused(Refusal),
 }
 
-// The translation of a file whose tables are filled: 17 and 16 are decided by its size, before the first byte is written.
-fn translate_loaded(
-    file: &[u8],
-    starts: &[u16; 2048],
-    handlers: &[u8; 2048],
-    params: &[u8; 32],
-    locals: &[u8; 32],
-    blocks: &[u8; 32],
-    out: &mut [u8],
-) -> Translated
-    requires { ⌜ Loaded (now file) (now starts) (now handlers) (now params) (now locals) (now blocks) ⌝ }
-    ensures { λ r. ⌜ (outcomeOf r ≡ fitting (length (translationOf (now (file .entry)))) (length (now (out .entry)))) × (now (out .exit) ≡ leaves (fitting (length (translationOf (now (file .entry)))) (length (now (out .entry)))) (translationOf (now (file .entry))) (now (out .entry))) ⌝ }
+// The size of the translation of a loaded file.
+pub fn translation_size(file: &[u8], starts: &[u16; 2048]) -> usize
+    requires { ⌜ Loaded (now file) (now starts) ⌝ }
+    ensures { λ r. ⌜ r ≡ length (translationOf (now (file .entry))) ⌝ }
 {
-    let size = sizes::file_size(file, starts, handlers, params, locals, blocks);
-    if 65535 < size {
-        return Translated::Refused(Refusal {
-            number: 17,
-            place: 0,
-        });
+    let count = functions_of(file);
+    let mut n = 7;
+    let mut f = 0;
+    while f < count {
+        let size = function_size(file, starts, f);
+        n += size;
+        f += 1;
     }
-    if out.len() < size {
-        return Translated::Refused(Refusal {
-            number: 16,
-            place: 0,
-        });
+    n
+}
+
+// 17 and 16: the bytes of a translation, and the room lent for them.
+pub fn room_checked(size: usize, room: usize) -> Checked
+    ensures { λ r. ⌜ verdictOf r ≡ roomVerdict size room ⌝ }
+{
+    or_else(
+        refused_unless(size <= FILE_LIMIT, refusals::TRANSLATION_TOO_LONG, 0),
+        refused_unless(size <= room, refusals::NO_ROOM, 0),
+    )
+}
+
+// The translation of a loaded file: 17 and 16 are decided by its size, before the first byte is written.
+pub fn translate_loaded(file: &[u8], starts: &[u16; 2048], out: &mut [u8]) -> Translated
+    requires { ⌜ Loaded (now file) (now starts) ⌝ }
+    ensures { λ r. ⌜ (toldBy r ≡ tellsBy (roomVerdict (length (translationOf (now (file .entry)))) (length (now (out .entry)))) (length (translationOf (now (file .entry))))) × (now (out .exit) ≡ leaves (roomVerdict (length (translationOf (now (file .entry)))) (length (now (out .entry)))) (translationOf (now (file .entry))) (now (out .entry))) ⌝ }
+{
+    let size = translation_size(file, starts);
+    match room_checked(size, out.len()) {
+        Checked::Refused(r) => Translated::Refused(r),
+        Checked::Accepted => {
+            parts::put_file(file, starts, out);
+            Translated::Written(size)
+        }
     }
-    parts::put_file(file, starts, handlers, params, locals, blocks, out);
-    Translated::Written(size)
 }
 
 // The translated file of a procedure file, written into the output that is lent.
 pub fn translate(file: &[u8], out: &mut [u8]) -> Translated
-    ensures { λ r. ⌜ (outcomeOf r ≡ answerOf (now (file .entry)) (length (now (out .entry)))) × (now (out .exit) ≡ outputOf (now (file .entry)) (now (out .entry))) ⌝ }
+    ensures { λ r. ⌜ (toldBy r ≡ answerOf (now (file .entry)) (length (now (out .entry)))) × (now (out .exit) ≡ outputOf (now (file .entry)) (now (out .entry))) ⌝ }
 {
     let mut starts = [0u16; 2048];
-    let mut handlers = [0u8; 2048];
-    let mut params = [0u8; 32];
-    let mut locals = [0u8; 32];
-    let mut blocks = [0u8; 32];
-    match lookup::load(
-        file,
-        &mut starts,
-        &mut handlers,
-        &mut params,
-        &mut locals,
-        &mut blocks,
-    ) {
+    match load(file, &mut starts) {
         Checked::Refused(r) => Translated::Refused(r),
-        Checked::Accepted => translate_loaded(
-            file,
-            &starts,
-            &handlers,
-            &params,
-            &locals,
-            &blocks,
-            out,
-        ),
+        Checked::Accepted => translate_loaded(file, &starts, out),
     }
 }

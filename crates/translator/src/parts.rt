@@ -1,17 +1,21 @@
 // The functions of the translated file, written one behind the other.
 use crate::blocks::put_block;
-use crate::sizes;
 use casts::byte_number;
 use casts::offset_number;
+use procedure_file::table;
 use translator_bytes::bytes;
+use translator_sizes::block_size;
+use translator_sizes::fields_of;
 ghost use mathlib.Core.Path.{_≡_};
-ghost use Prim.Native.Nat.{ℕ, _+_, _*_, _<_, _≤_};
-ghost use lib.ListN.{length, getD};
-ghost use Rattle.procedure_file.specs.Loaded.{Loaded};
+ghost use Prim.Native.Nat.{_<_, _≤_};
+ghost use lib.ListN.{length};
+ghost use Rattle.procedure_layout.specs.Layout.{maxFunctions, maxVariables};
+ghost use Rattle.procedure_file.specs.Loaded.{Tabled, Loaded};
 ghost use Rattle.procedure_file.specs.Check.{programOf};
 ghost use Rattle.semantics.specs.Program.{functionOf};
+ghost use Rattle.semantics.specs.Translation.{translate};
 ghost use Rattle.translator_bytes.specs.Writes.{Room, Wrote};
-ghost use Rattle.translator.specs.Parts.{partBytes, labelBytes, functionBytes, functionsBytes, targetsBefore};
+ghost use Rattle.translator_sizes.specs.Parts.{partBytes, labelBytes, functionBytes, functionsBytes};
 ghost use Rattle.translator.specs.Standing.{Placed, Numbered};
 ghost use Rattle.translator.specs.Translated.{translationOf};
 
@@ -28,12 +32,12 @@ fn put_part(
     out: &mut [u8],
     o: usize,
 ) -> usize
-    requires { ⌜ Placed (now file) (now numbers) base v at × (p ≤ 32) × (n ≤ 24) ⌝ }
+    requires { ⌜ Placed (now file) (now numbers) base v at × (p ≤ maxVariables) × (n ≤ 24) ⌝ }
     requires { ⌜ Room o (partBytes (now file) base p n v h at) (now out) ⌝ }
     ensures { λ r. ⌜ Wrote o (partBytes (now (file .entry)) base p n v h at) (now (out .entry)) r (now (out .exit)) ⌝ }
 {
     let first = p + 2;
-    let body = sizes::block_size(file, v, h, at);
+    let body = block_size(file, v, h, at);
     let size = 6 * (n as usize) + body;
     let a = bytes::put_one(out, o, p);
     let b = bytes::put_pair(out, a, size);
@@ -46,30 +50,30 @@ fn put_label(
     file: &[u8],
     numbers: &[u16; 32],
     starts: &[u16; 2048],
-    handlers: &[u8; 2048],
-    params: &[u8; 32],
-    locals: &[u8; 32],
-    blocks: &[u8; 32],
     f: usize,
     l: usize,
     out: &mut [u8],
     o: usize,
 ) -> usize
-    requires { ⌜ Loaded (now file) (now starts) (now handlers) (now params) (now locals) (now blocks) × Numbered (now file) (now numbers) ⌝ }
+    requires { ⌜ Loaded (now file) (now starts) × Numbered (now file) (now numbers) ⌝ }
     requires { ⌜ (f < length (programOf (now file))) × (l ≤ length (functionOf (programOf (now file)) f .blocks)) ⌝ }
     requires { ⌜ Room o (labelBytes (now file) f l) (now out) ⌝ }
     ensures { λ r. ⌜ Wrote o (labelBytes (now (file .entry)) f l) (now (out .entry)) r (now (out .exit)) ⌝ }
 {
-    let index = 64 * f + l;
     let base = offset_number(numbers[f]);
-    let own = params[f];
-    let others = locals[f];
-    let v = own + others;
-    let p = sizes::by_label(l, own, v);
-    let n = sizes::by_label(l, others, 0);
-    let at = offset_number(starts[index]);
-    let h = handlers[index];
-    put_part(file, numbers, base, p, n, v, h, at, out, o)
+    let x = fields_of(file, starts, f, l);
+    put_part(
+        file,
+        numbers,
+        base,
+        x.params,
+        x.locals,
+        x.variables,
+        x.handler,
+        x.start,
+        out,
+        o,
+    )
 }
 
 // Function f and its labelled blocks.
@@ -77,36 +81,20 @@ fn put_function(
     file: &[u8],
     numbers: &[u16; 32],
     starts: &[u16; 2048],
-    handlers: &[u8; 2048],
-    params: &[u8; 32],
-    locals: &[u8; 32],
-    blocks: &[u8; 32],
     f: usize,
     out: &mut [u8],
     o: usize,
 ) -> usize
-    requires { ⌜ Loaded (now file) (now starts) (now handlers) (now params) (now locals) (now blocks) × Numbered (now file) (now numbers) ⌝ }
+    requires { ⌜ Loaded (now file) (now starts) × Numbered (now file) (now numbers) ⌝ }
     requires { ⌜ f < length (programOf (now file)) ⌝ }
     requires { ⌜ Room o (functionBytes (now file) f) (now out) ⌝ }
     ensures { λ r. ⌜ Wrote o (functionBytes (now (file .entry)) f) (now (out .entry)) r (now (out .exit)) ⌝ }
 {
-    let labels = byte_number(blocks[f]);
+    let labels = byte_number(table::labels_of(file, starts, f));
     let mut place = o;
     let mut l = 0;
     while l <= labels {
-        place = put_label(
-            file,
-            numbers,
-            starts,
-            handlers,
-            params,
-            locals,
-            blocks,
-            f,
-            l,
-            out,
-            place,
-        );
+        place = put_label(file, numbers, starts, f, l, out, place);
         l += 1;
     }
     place
@@ -117,48 +105,34 @@ fn put_functions(
     file: &[u8],
     numbers: &[u16; 32],
     starts: &[u16; 2048],
-    handlers: &[u8; 2048],
-    params: &[u8; 32],
-    locals: &[u8; 32],
-    blocks: &[u8; 32],
-    count: usize,
     out: &mut [u8],
     o: usize,
 ) -> usize
-    requires { ⌜ Loaded (now file) (now starts) (now handlers) (now params) (now locals) (now blocks) × Numbered (now file) (now numbers) × (count ≡ length (programOf (now file))) ⌝ }
+    requires { ⌜ Loaded (now file) (now starts) × Numbered (now file) (now numbers) ⌝ }
     requires { ⌜ Room o (functionsBytes (now file)) (now out) ⌝ }
     ensures { λ r. ⌜ Wrote o (functionsBytes (now (file .entry))) (now (out .entry)) r (now (out .exit)) ⌝ }
 {
+    let count = table::functions_of(file);
     let mut place = o;
     let mut f: usize = 0;
     while f < count {
-        place = put_function(
-            file,
-            numbers,
-            starts,
-            handlers,
-            params,
-            locals,
-            blocks,
-            f,
-            out,
-            place,
-        );
+        place = put_function(file, numbers, starts, f, out, place);
         f += 1;
     }
     place
 }
 
 // The number of each function's entry in the translation; gives the number of functions of the translation.
-fn fill_numbers(blocks: &[u8; 32], count: usize, numbers: &mut [u16]) -> usize
-    requires { ⌜ (count ≤ 32) × (length (now numbers) ≡ 32) ⌝ }
-    ensures { λ r. ⌜ (r ≡ targetsBefore (now (blocks .entry)) count) × ((g : ℕ) → g < count → getD (now (numbers .exit)) g 0 ≡ targetsBefore (now (blocks .entry)) g) ⌝ }
+fn fill_numbers(file: &[u8], starts: &[u16; 2048], numbers: &mut [u16]) -> usize
+    requires { ⌜ Tabled (now file) (now starts) × (length (now numbers) ≡ maxFunctions) ⌝ }
+    ensures { λ r. ⌜ (r ≡ length (translate (programOf (now (file .entry))))) × (r ≤ 2048) × Numbered (now (file .entry)) (now (numbers .exit)) ⌝ }
 {
+    let count = table::functions_of(file);
     let mut n = 0;
     let mut f = 0;
     while f < count {
         numbers[f] = n as u16;
-        let labels = byte_number(blocks[f]);
+        let labels = byte_number(table::labels_of(file, starts, f));
         n += 1 + labels;
         f += 1;
     }
@@ -166,36 +140,16 @@ fn fill_numbers(blocks: &[u8; 32], count: usize, numbers: &mut [u16]) -> usize
 }
 
 // The whole translated file.
-pub fn put_file(
-    file: &[u8],
-    starts: &[u16; 2048],
-    handlers: &[u8; 2048],
-    params: &[u8; 32],
-    locals: &[u8; 32],
-    blocks: &[u8; 32],
-    out: &mut [u8],
-) -> usize
-    requires { ⌜ Loaded (now file) (now starts) (now handlers) (now params) (now locals) (now blocks) ⌝ }
+pub fn put_file(file: &[u8], starts: &[u16; 2048], out: &mut [u8]) -> usize
+    requires { ⌜ Loaded (now file) (now starts) ⌝ }
     requires { ⌜ Room 0 (translationOf (now file)) (now out) ⌝ }
     ensures { λ r. ⌜ Wrote 0 (translationOf (now (file .entry))) (now (out .entry)) r (now (out .exit)) ⌝ }
 {
     let mut numbers = [0u16; 32];
-    let count = byte_number(file[5]);
-    let targets = fill_numbers(blocks, count, &mut numbers);
+    let targets = fill_numbers(file, starts, &mut numbers);
     let mark = b"SPC";
     let a = bytes::put_three(out, 0, mark[0], mark[1], mark[2]);
     let b = bytes::put_two(out, a, 1, 0);
     let e = bytes::put_pair(out, b, targets);
-    put_functions(
-        file,
-        &numbers,
-        starts,
-        handlers,
-        params,
-        locals,
-        blocks,
-        count,
-        out,
-        e,
-    )
+    put_functions(file, &numbers, starts, out, e)
 }

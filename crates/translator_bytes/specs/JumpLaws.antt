@@ -11,7 +11,7 @@ use Rattle.parsing.specs.Fields.{valueAt}
 use Rattle.semantics.specs.Translation.{slotOf, slotsFrom}
 use Rattle.translator_bytes.specs.Writes.{Room, Wrote, Arguments}
 use Rattle.translator_bytes.specs.WriteLaws.{room-front, room-back, wrote-both, Rest, rest-none, rest-as, rest-more, rest-done, arguments-more}
-use Rattle.translator_bytes.specs.Bytes.{jumpHead, labelJump, callJump, plainCall, guardedCall, branchBytes, raiseBytes, callBytes}
+use Rattle.translator_bytes.specs.Bytes.{jumpHead, labelJump, callJump, plainCall, guardedCall, branchBytes, raiseBytes, raiseSize, callBytes}
 
 -- A jump's length, where the code has computed it.
 pub pair-as : {o j n r : ℕ} {d d′ : List ℕ} → j ≡ n → Wrote o (pairBytes j) d r d′ → Wrote o (pairBytes n) d r d′
@@ -177,6 +177,15 @@ module _ (base v h : ℕ) where
   pub caught-as : (h ≡ 0 → ⊥) → raiseBytes base v h ≡ labelJump base v h
   unfolding raiseBytes
   caught-as e = rw (ne-eqb h 0 e)
+
+module _ (v h : ℕ) where
+  pub uncaught-sum : h ≡ 0 → 2 ≡ raiseSize v h
+  unfolding raiseSize
+  uncaught-sum e = rw (eq-eqb h 0 e)
+
+  pub caught-sum : {j : ℕ} → (h ≡ 0 → ⊥) → j ≡ 6 + v → j ≡ raiseSize v h
+  unfolding raiseSize
+  caught-sum e q = rw (ne-eqb h 0 e, q)
 
 pub room-as : {o : ℕ} {w w′ d : List ℕ} → w ≡ w′ → Room o w d → Room o w′ d
 room-as {o} {d = d} e R = subst (λ (y : List ℕ). Room o y d) e R

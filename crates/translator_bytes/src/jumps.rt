@@ -7,7 +7,7 @@ ghost use lib.ListN.{length, getD, take, drop};
 ghost use Rattle.parsing.specs.Fields.{valueAt};
 ghost use Rattle.parsing.specs.Bytes.{valueBytes};
 ghost use Rattle.translator_bytes.specs.Writes.{Room, Wrote};
-ghost use Rattle.translator_bytes.specs.Bytes.{jumpHead, labelJump, callJump, plainCall, guardedCall, branchBytes, raiseBytes, callBytes};
+ghost use Rattle.translator_bytes.specs.Bytes.{jumpHead, labelJump, callJump, plainCall, guardedCall, branchBytes, raiseBytes, raiseSize, callBytes};
 ghost use Rattle.translator_bytes.specs.Writes.{Arguments};
 
 // The length of a jump with 0 to 32 values.
@@ -182,6 +182,15 @@ pub fn put_branch(out: &mut [u8], o: usize, base: usize, v: u8, y: u8, z: u8, l:
     let b = bytes::put_pair(out, a, size);
     let e = put_label_jump(out, b, base, v, l);
     put_label_jump(out, e, base, v, m)
+}
+
+// How many bytes a raise becomes, under the handler in force.
+pub fn raise_size(v: u8, h: u8) -> usize
+    requires { ⌜ v ≤ 32 ⌝ }
+    ensures { λ r. ⌜ (r ≡ raiseSize v h) × (r ≤ 128) ⌝ }
+{
+    let jump = jump_size(v as usize);
+    if h == 0 { 2 } else { jump }
 }
 
 // 8 raise, under the handler in force.

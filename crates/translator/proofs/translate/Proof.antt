@@ -1,13 +1,10 @@
 -- `translator::translate` meets its contract.
-use Rattle.translator.specs.AnswerLaws.{answer-refused, is-accepted, answer-accepted}
+use Rattle.procedure_file.specs.LoadedLaws.{loaded}
+use Rattle.translator.specs.Translated.{translateVerdict, answerOf, outputOf}
+use Rattle.translator.specs.AnswerLaws.{answer-refused, answer-accepted}
 use borrow.Author.Needs.{needs}
 use Rattle.translator.proofs.translate.Statement.{statement}
 use Rattle.translator.proofs.translate.Tie as tie
-use Rattle.procedure_file.proofs.lookup.load.Reads as load-reads
-
--- Ways back to earlier places that several answers take.
-abbrev entry-before-load : tie.After-load → tie.Start
-entry-before-load c = c .before .before .before .before .before .before .before .before
 
 load-requires : tie.Need-load-requires
 load-requires c κs = search needs
@@ -20,27 +17,28 @@ enum-told c = search needs
 
 translate-loaded-requires : tie.Need-translate-loaded-requires
 translate-loaded-requires c κs =
-    let at-enum-told = c .before .before .before .before .before .before in
-    let at-load = at-enum-told .before .before in
-    let entry = entry-before-load at-load in
-    rw (is-accepted (entry .args .file .now) (entry .args .out .now) (at-load .load .ensures .0) (at-enum-told .enum-told .given .1)) at (at-load .load .ensures .1)
+    let at-load = c .before .before .before .before in
+    let entry = at-load .before .before .before .before in
+    loaded (entry .args .file .now) _ _ _ (at-load .load .ensures .0) (at-load .load .ensures .1) (c .before .before .enum-told .given .1)
 
 returns : tie.Need-returns
+unfolding answerOf outputOf translateVerdict
 returns c =
     let at-load = c .before .before .before in
-    let entry = entry-before-load at-load in
-    let F = answer-refused (entry .args .file .now) (entry .args .out .now) (at-load .load .ensures .0) (c .before .r .given .1) in (F .answer, F .output)
+    let entry = at-load .before .before .before .before in
+    let F = answer-refused (entry .args .file .now) (entry .args .out .now) (at-load .load .ensures .0) _ (c .before .r .given .1) in (F .answer, F .output)
 
 same-length : tie.Need-same-length
 same-length c = search needs
 
 returns-2 : tie.Need-returns-2
+unfolding answerOf outputOf translateVerdict
 returns-2 c =
     let at-translate-loaded = c .before .before in
-    let at-enum-told = at-translate-loaded .before .before .before .before .before .before .before in
+    let at-enum-told = at-translate-loaded .before .before .before in
     let at-load = at-enum-told .before .before in
-    let entry = entry-before-load at-load in
-    let F = answer-accepted (entry .args .file .now) (entry .args .out .now) (at-load .load .ensures .0) (at-enum-told .enum-told .given .1)
+    let entry = at-load .before .before .before .before in
+    let F = answer-accepted (entry .args .file .now) (entry .args .out .now) (at-load .load .ensures .0) _ (at-enum-told .enum-told .given .1)
     (record { answer = at-translate-loaded .translate-loaded .ensures .0; output = at-translate-loaded .translate-loaded .ensures .1 }) in
     (F .answer, F .output)
 

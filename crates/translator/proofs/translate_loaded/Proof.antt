@@ -1,49 +1,64 @@
 -- `translator::translate_loaded` meets its contract.
-use Rattle.translator.specs.AnswerLaws.{answer-17, answer-16, answer-room, answer-written}
-use native.Mathlib.Omega.{arith}
+use Rattle.translator.specs.AnswerLaws.{size-refused, answer-room, answer-written}
 use borrow.Author.Needs.{needs}
 use Rattle.translator.proofs.translate_loaded.Statement.{statement}
 use Rattle.translator.proofs.translate_loaded.Tie as tie
 
--- Ways back to earlier places that several answers take.
-abbrev entry-before-file-size : tie.After-file-size → tie.Start
-entry-before-file-size c = c .before .before .before
+abbrev entry-before-size : tie.After-translation-size → tie.Start
+entry-before-size c = c .before .before .before
 
-file-size-requires : tie.Need-file-size-requires
-file-size-requires c κs = search needs
+translation-size-requires : tie.Need-translation-size-requires
+translation-size-requires c κs = search needs
 
-returns : tie.Need-returns
-returns c =
-    let entry = c .before .before .before .before in
-    let F = answer-17 (entry .args .file .now) (entry .args .out .now) (c .before .file-size .ensures) (c .if1 .taken) in (F .answer, F .output)
+room-checked-requires : tie.Need-room-checked-requires
+room-checked-requires c κs = search needs
 
-returns-2 : tie.Need-returns-2
-returns-2 c =
-    let entry = c .before .before .before .before .before in
-    let F = answer-16 (entry .args .file .now) (entry .args .out .now) (c .before .before .file-size .ensures) (omega (arith, c .before .if1 .left)) (c .if2 .taken) in
-    (F .answer, F .output)
+enum-known-r : tie.Need-enum-known-r
+enum-known-r c = search needs
+
+enum-told : tie.Need-enum-told
+enum-told c = search needs
 
 put-file-requires : tie.Need-put-file-requires
 put-file-requires c κs =
-    let at-if1 = c .before .before in
-    let at-file-size = at-if1 .before in
-    let entry = entry-before-file-size at-file-size in
-    (entry .pre, answer-room (entry .args .file .now) (entry .args .out .now) (at-file-size .file-size .ensures) (omega (arith, at-if1 .if1 .left)) (omega (arith, c .before .if2 .left)))
+    let at-enum-told = c .before in
+    let at-room-checked = at-enum-told .before .before in
+    let at-size = at-room-checked .before in
+    let entry = entry-before-size at-size in
+    (entry .pre, answer-room (entry .args .file .now) (entry .args .out .now) (at-size .translation-size .ensures) (at-room-checked .room-checked .ensures) (at-enum-told .enum-told .given .1))
+
+returns : tie.Need-returns
+returns c =
+    let at-r = c .before in
+    let at-room-checked = at-r .before .before in
+    let at-size = at-room-checked .before in
+    let entry = entry-before-size at-size in
+    let A = size-refused (entry .args .file .now) (entry .args .out .now) (at-size .translation-size .ensures) (at-room-checked .room-checked .ensures) (at-r .r .given .1) in
+    (A .answer, A .output)
 
 same-length : tie.Need-same-length
 same-length c = search needs
 
-returns-3 : tie.Need-returns-3
-returns-3 c =
-    let at-if2 = c .before .before .before .before in
-    let at-if1 = at-if2 .before in
-    let at-file-size = at-if1 .before in
-    let entry = entry-before-file-size at-file-size in
-    let F = answer-written (entry .args .file .now) (entry .args .out .now) (at-file-size .file-size .ensures) (omega (arith, at-if1 .if1 .left)) (omega (arith, at-if2 .if2 .left))
-    (c .before .before .put-file .ensures) in
-    (F .answer, F .output)
+returns-2 : tie.Need-returns-2
+returns-2 c =
+    let at-put-file = c .before .before in
+    let at-enum-told = at-put-file .before .before in
+    let at-room-checked = at-enum-told .before .before in
+    let at-size = at-room-checked .before in
+    let entry = entry-before-size at-size in
+    let A = answer-written (entry .args .file .now) (entry .args .out .now) (at-size .translation-size .ensures) (at-room-checked .room-checked .ensures)
+    (at-enum-told .enum-told .given .1) (at-put-file .put-file .ensures) in
+    (A .answer, A .output)
 
 pub translate-loaded-spec : {M : Type 1} → statement M
 translate-loaded-spec =
     tie.close
-    (tie.spec file-size-requires returns returns-2 put-file-requires same-length returns-3)
+    (tie.spec
+    translation-size-requires
+    room-checked-requires
+    enum-known-r
+    enum-told
+    put-file-requires
+    returns
+    same-length
+    returns-2)

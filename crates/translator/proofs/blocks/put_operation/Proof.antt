@@ -1,7 +1,7 @@
 -- `translator::blocks::put_operation` meets its contract.
 use native.Mathlib.Omega.{arith}
 use Rattle.translator.specs.BlockLaws.{arm-fine, arm-room, arm-wrote, constant-bytes}
-use Rattle.translator.specs.OperationLaws.{variables-bound, fine}
+use Rattle.translator_sizes.specs.OperationLaws.{variables-bound}
 use Rattle.translator_bytes.specs.JumpLaws.{room-as, wrote-as}
 use borrow.Author.Needs.{needs}
 use Rattle.translator.proofs.blocks.put_operation.Statement.{statement}

@@ -1,7 +1,7 @@
 -- The translation by blocks: the body at an offset, and the part of the translated file that a block becomes.
 use Prim.Native.Nat.{ℕ, zero, suc, _+_, _*_}
 use mathlib.Core.List.{List, [], _∷_, _++_}
-use lib.ListN.{length, getD}
+use lib.ListN.{length}
 use Rattle.parsing.specs.Parser.{joined}
 use Rattle.parsing.specs.Bytes.{pairBytes}
 use Rattle.semantics.specs.Program.{Function, Program, variables, functionOf}
@@ -9,9 +9,10 @@ use Rattle.semantics.specs.Code.{Expr, Target}
 use Rattle.semantics.specs.Translation.{slotOf, code, bindZeros, number, translateFunction, translate}
 use Rattle.procedure_layout.specs.Rest.{restAt}
 use Rattle.procedure_file.specs.Check.{programOf}
-use Rattle.procedure_file.specs.Places.{blockOf, handlerOf}
+use Rattle.procedure_file.specs.Places.{startOf, blockOf, handlerOf}
 use Rattle.target_file.specs.Writing.{exprBytes, targetBytes}
 use Rattle.translator_bytes.specs.Bytes.{zeros}
+use Rattle.translator_sizes.specs.declared.Fields.{Fields}
 
 -- The translation of the rest of a block from an offset on.
 unfoldable pub bodyAt : List ℕ → ℕ → ℕ → ℕ → ℕ → Expr
@@ -31,6 +32,17 @@ abbrev pub byLabel : ℕ → ℕ → ℕ → ℕ
 byLabel zero a b = a
 byLabel (suc l) a b = b
 
+-- What that function is made from: its counts, the handler in force, where the block starts.
+unfoldable pub fieldsOf : Program → ℕ → ℕ → Fields
+fieldsOf P f l =
+    record {
+      params = byLabel l (functionOf P f .params) (variables (functionOf P f));
+      locals = byLabel l (functionOf P f .locals) 0;
+      variables = variables (functionOf P f);
+      handler = handlerOf (functionOf P f) l;
+      start = startOf P f l;
+    }
+
 -- The function of the translated file that the block with label l of F becomes.
 abbrev pub partOf : (ℕ → ℕ) → ℕ → Function → ℕ → Target
 partOf numbers base F l =
@@ -49,8 +61,3 @@ functionBytes s f = joined targetBytes (translateFunction (number (programOf s))
 -- The bytes of all functions.
 unfoldable pub functionsBytes : List ℕ → List ℕ
 functionsBytes s = joined targetBytes (translate (programOf s))
-
--- How many functions of the translation the first k functions become, from the table of their block counts.
-abbrev pub targetsBefore : List ℕ → ℕ → ℕ
-targetsBefore bs zero = 0
-targetsBefore bs (suc k) = targetsBefore bs k + (1 + getD bs k 0)

@@ -1,46 +1,19 @@
--- How many bytes the writing of an expression and of each operation is.
-use Prim.Native.Nat.{ℕ, zero, suc, _+_, _*_, _≤_, _<_}
+-- How many bytes each operation becomes.
+use Prim.Native.Nat.{ℕ, zero, suc, _+_, _*_}
 use native.Mathlib.Omega.{arith}
-use mathlib.Core.Path.{_≡_, refl, sym, ap, _∙_, subst}
-use mathlib.Core.List.{List, [], _∷_, _++_, map}
+use mathlib.Core.Path.{_≡_, refl, ap}
+use mathlib.Core.List.{List, _++_}
 use mathlib.Core.Bool.{false}
 use borrow.Author.Tests.{eq-eqb, ne-eqb}
 use lib.Dec.{eqb}
-use lib.ListN.{length, take, drop, length-append, length-map}
-use Rattle.parsing.specs.Bytes.{pairBytes, valueBytes}
-use Rattle.semantics.specs.Code.{Expr, letConstant, letSlot, letDifference, jump, resume, handle, ifAtMost, letContinuation, letContinuationWithHandler}
+use lib.ListN.{length, length-append, length-map}
+use Rattle.parsing.specs.Bytes.{pairBytes}
 use Rattle.semantics.specs.Translation.{slotOf, slotsFrom}
-use Rattle.target_file.specs.Writing.{size, exprBytes}
 use Rattle.translator_bytes.specs.Bytes.{jumpHead, labelJump, callJump, plainCall, guardedCall, branchBytes, raiseBytes, callBytes, callSize, raiseSize, zeros}
 
 -- A handler in force is not 0.
 pub guarded-test : (h : ℕ) → eqb (suc h) 0 ≡ false
 guarded-test h = ne-eqb (suc h) 0 (λ e. omega arith)
-
-pub size-is : (e : Expr) → length (exprBytes e) ≡ size e
-size-is (letConstant x i e) = let a = size-is e in omega arith
-size-is (letSlot x y e) = let a = size-is e in omega arith
-size-is (letDifference x y z e) = let a = size-is e in omega arith
-size-is (jump g k h ss) = omega arith
-size-is (resume k y) = refl
-size-is (handle h) = refl
-size-is (ifAtMost y z e₁ e₂) =
-    let a = size-is e₁ in
-    let b = size-is e₂ in
-    let c = length-append (exprBytes e₁) (exprBytes e₂) in
-    omega arith
-size-is (letContinuation x p e k) =
-    let a = size-is e in
-    let b = size-is k in
-    let c = length-append (exprBytes e) (exprBytes k) in
-    omega arith
-size-is (letContinuationWithHandler x p t e h k) =
-    let a = size-is e in
-    let b = size-is h in
-    let c = size-is k in
-    let p = length-append (exprBytes e) (pairBytes (size h) ++ (exprBytes h ++ exprBytes k)) in
-    let q = length-append (exprBytes h) (exprBytes k) in
-    omega arith
 
 pub length-slots : (x n : ℕ) → length (slotsFrom x n) ≡ n
 length-slots x zero = refl
@@ -96,11 +69,3 @@ plain-sum v h n e q = rw (eq-eqb h 0 e, q)
 pub guarded-sum : (v h n : ℕ) {j k : ℕ} → (h ≡ 0 → ⊥) → j ≡ 6 + n → k ≡ 6 + v → 8 + (j + k) ≡ callSize v h n
 unfolding callSize
 guarded-sum v h n e q r = rw (ne-eqb h 0 e, q, r)
-
-pub uncaught-sum : (v h : ℕ) → h ≡ 0 → 2 ≡ raiseSize v h
-unfolding raiseSize
-uncaught-sum v h e = rw (eq-eqb h 0 e)
-
-pub caught-sum : (v h : ℕ) {j : ℕ} → (h ≡ 0 → ⊥) → j ≡ 6 + v → j ≡ raiseSize v h
-unfolding raiseSize
-caught-sum v h e q = rw (ne-eqb h 0 e, q)

@@ -1,18 +1,16 @@
 -- What stands at an offset of an accepted file: its ranges, and the bytes that it becomes before the rest of its block.
-use Prim.Native.Nat.{ℕ, zero, suc, _+_, _*_, _≤_, _<_}
+use Prim.Native.Nat.{ℕ, zero, suc, _+_, _≤_, _<_}
 use native.Mathlib.Omega.{arith}
 use mathlib.Core.Path.{_≡_, refl, sym, ap, _∙_, subst}
 use mathlib.Core.List.{List, [], _∷_, _++_, map, append-assoc, append-nil}
-use mathlib.Core.Option.{some}
-use lib.ListN.{length, getD, take, drop, getElem?, length-append}
-use Rattle.parsing.specs.declared.Refusal.{Refusal}
+use lib.ListN.{length, getD}
 use Rattle.parsing.specs.Fields.{valueAt}
 use Rattle.parsing.specs.Bytes.{pairBytes, valueBytes}
-use Rattle.semantics.specs.Program.{Block, constant, copy, difference, call, goto, return, branch, raise, Function, Program, variables, functionOf}
-use Rattle.semantics.specs.WellFormed.{All, WellFormedBlock}
+use Rattle.semantics.specs.Program.{Block, call, Program, variables, functionOf}
+use Rattle.semantics.specs.WellFormed.{WellFormedBlock}
 use Rattle.semantics.specs.ListLaws.{all-at}
 use Rattle.semantics.specs.Code.{jump, ifAtMost}
-use Rattle.semantics.specs.Translation.{slotOf, slotsFrom, toLabel, code, number}
+use Rattle.semantics.specs.Translation.{slotOf, slotsFrom, toLabel, raiseCode, code, number}
 use Rattle.procedure_operations.specs.declared.operation.Operation.{Operation}
 use Rattle.procedure_operations.specs.declared.operation.Operation.the-variants.{Constant, Copy, Difference, Call, Goto, Return, Branch, Raise, Refused}
 use Rattle.procedure_layout.specs.declared.layout.After.{After}
@@ -23,13 +21,12 @@ use Rattle.procedure_layout.specs.Rest.{restFrom, restAt}
 use Rattle.procedure_layout.specs.After.{afterOf}
 use Rattle.procedure_operations.specs.ViewLaws.{View, isConstant, isCopy, isDifference, isCall, isGoto, isReturn, isBranch, isRaise, isRefused, view}
 use Rattle.procedure_file.specs.Check.{programOf}
-use Rattle.procedure_file.specs.FileInvariant.{FileInvariant, Stands, Counts}
 use Rattle.target_file.specs.Writing.{size, exprBytes}
-use Rattle.translator_bytes.specs.Bytes.{tabled, jumpHead, labelJump, callJump, plainCall, guardedCall, branchBytes, raiseBytes, callBytes, operationBytes, operationSize}
-use Rattle.translator.specs.Parts.{bodyAt, bytesAt}
-use Rattle.translator.specs.Standing.{OperationStands, Numbered, CountInTable}
+use Rattle.translator_bytes.specs.Bytes.{jumpHead, labelJump, callJump, plainCall, guardedCall, branchBytes, raiseBytes, callBytes, operationBytes, operationSize}
+use Rattle.translator_sizes.specs.Parts.{bodyAt, bytesAt}
+use Rattle.translator_sizes.specs.Standing.{OperationStands, CountInTable}
 use Rattle.translator_bytes.specs.Writes.{Arguments}
-use Rattle.translator.specs.SizeLaws.{guarded-test, length-slots, label-size, call-size, called-size, branch-size, raise-size}
+use Rattle.translator_sizes.specs.SizeLaws.{guarded-test, length-slots, label-size, called-size, branch-size, raise-size}
 use lib.ListN.{length-map}
 
 -- The ranges of the names of an operation.
@@ -112,19 +109,6 @@ operation-size ns base v h s at (Branch y z l m next) f = branch-size base v y z
 operation-size ns base v h s at (Raise next) f = raise-size base v h
 operation-size ns base v h s at (Refused r) f = refl
 
--- The table gives the same bytes as the translation's numbers.
-pub same-numbers : (s ns : List ℕ) → Numbered s ns → (base v h at : ℕ) (o : Operation) → Fine s at o
-    → operationBytes (tabled ns) base v h s at o ≡ operationBytes (number (programOf s)) base v h s at o
-same-numbers s ns N base v h at (Constant x i next) f = refl
-same-numbers s ns N base v h at (Copy x y next) f = refl
-same-numbers s ns N base v h at (Difference x y z next) f = refl
-same-numbers s ns N base v h at (Call x g n next) f = ap (λ (k : ℕ). callBytes base v h x k n (argumentsAt s at n)) (N g (f .1))
-same-numbers s ns N base v h at (Goto l next) f = refl
-same-numbers s ns N base v h at (Return x next) f = refl
-same-numbers s ns N base v h at (Branch y z l m next) f = refl
-same-numbers s ns N base v h at (Raise next) f = refl
-same-numbers s ns N base v h at (Refused r) f = refl
-
 -- The bytes of what follows an operation.
 abbrev pub following : After → (ℕ → List ℕ) → List ℕ
 following (Onward next) rest = rest next
@@ -145,6 +129,11 @@ label-is base v l = ap (λ (n : ℕ). (4 ∷ (pairBytes (base + l) ++ (0 ∷ 1 �
 call-is : (g k h n : ℕ) (ys : List ℕ) → length ys ≡ n → exprBytes (jump g k h (map slotOf ys)) ≡ callJump g k h n ys
 unfolding callJump jumpHead
 call-is g k h n ys e = ap (λ (m : ℕ). (4 ∷ (pairBytes g ++ (k ∷ h ∷ m ∷ map slotOf ys)))) (length-map ys slotOf ∙ e)
+
+raise-is : (base v h : ℕ) → exprBytes (raiseCode base v h) ≡ raiseBytes base v h
+unfolding raiseBytes
+raise-is base v zero = refl
+raise-is base v (suc l) = rw (guarded-test l) (label-is base v (suc l))
 
 branch-is : (base v y z l m : ℕ) → exprBytes (ifAtMost (slotOf y) (slotOf z) (toLabel base v l) (toLabel base v m)) ≡ branchBytes base v y z l m
 unfolding branchBytes
@@ -176,7 +165,7 @@ module _ (ns : ℕ → ℕ) (base v : ℕ) where
   pub split : (h : ℕ) (s : List ℕ) (at : ℕ) (o : Operation) → Fine s at o
       → exprBytes (code ns base v h (restFrom s at o (restAt s)))
       ≡ operationBytes ns base v h s at o ++ following (afterOf o) (λ m. exprBytes (code ns base v h (restAt s m)))
-  unfolding code callBytes raiseBytes
+  unfolding code callBytes
   split h s at (Constant x i next) f = ap (λ (k : ℕ). 1 ∷ k ∷ (valueBytes i ++ exprBytes (code ns base v h (restAt s next)))) (sym (two x))
   split h s at (Copy x y next) f = rw (two x, two y)
   split h s at (Difference x y z next) f = rw (two x, two y, two z)
@@ -185,8 +174,7 @@ module _ (ns : ℕ → ℕ) (base v : ℕ) where
   split h s at (Goto l next) f = label-is base v l ∙ sym (append-nil (labelJump base v l))
   split h s at (Return x next) f = rw (two x)
   split h s at (Branch y z l m next) f = branch-is base v y z l m ∙ sym (append-nil (branchBytes base v y z l m))
-  split zero s at (Raise next) f = refl
-  split (suc l) s at (Raise next) f = rw (guarded-test l) (label-is base v (suc l) ∙ sym (append-nil (labelJump base v (suc l))))
+  split h s at (Raise next) f = raise-is base v h ∙ sym (append-nil (raiseBytes base v h))
   split h s at (Refused r) f = absurd f
 
 pub split-at : {s : List ℕ} {v at : ℕ} (base h : ℕ) → OperationStands s v at

@@ -1,9 +1,9 @@
--- `translator::sizes::raise_size` meets its contract.
-use Rattle.translator.specs.SizeLaws.{uncaught-sum, caught-sum}
+-- `translator_bytes::jumps::raise_size` meets its contract.
+use Rattle.translator_bytes.specs.JumpLaws.{uncaught-sum, caught-sum}
 use native.Mathlib.Omega.{arith}
 use borrow.Author.Needs.{needs}
-use Rattle.translator.proofs.sizes.raise_size.Statement.{statement}
-use Rattle.translator.proofs.sizes.raise_size.Tie as tie
+use Rattle.translator_bytes.proofs.jumps.raise_size.Statement.{statement}
+use Rattle.translator_bytes.proofs.jumps.raise_size.Tie as tie
 
 jump-size-requires : tie.Need-jump-size-requires
 jump-size-requires c κs = search needs

@@ -1,10 +1,10 @@
--- `translator::sizes::operation_size` meets its contract.
+-- `translator_sizes::operation_size` meets its contract.
 use Rattle.translator_bytes.specs.Bytes.{operationSize}
-use Rattle.translator.specs.Standing.{CountInTable}
+use Rattle.translator_sizes.specs.Standing.{CountInTable}
 use mathlib.Core.Path.{sym, ap, _∙_, subst}
 use borrow.Author.Needs.{needs}
-use Rattle.translator.proofs.sizes.operation_size.Statement.{statement}
-use Rattle.translator.proofs.sizes.operation_size.Tie as tie
+use Rattle.translator_sizes.proofs.operation_size.Statement.{statement}
+use Rattle.translator_sizes.proofs.operation_size.Tie as tie
 
 enum-told : tie.Need-enum-told
 enum-told c = search needs

@@ -1,11 +1,11 @@
--- `translator::sizes::block_size` meets its contract.
-use Rattle.translator.specs.BlockLaws.{Counting, count-none, count-asks, count-bound, count-next, count-moves, count-done, count-never}
+-- `translator_sizes::block_size` meets its contract.
+use Rattle.translator_sizes.specs.CountLaws.{Counting, count-none, count-asks, count-bound, count-next, count-moves, count-done, count-never}
 use lib.ListN.{length}
 use Prim.Native.Nat.{_-_}
 use native.Mathlib.Omega.{arith}
 use borrow.Author.Needs.{needs}
-use Rattle.translator.proofs.sizes.block_size.Statement.{statement}
-use Rattle.translator.proofs.sizes.block_size.Tie as tie
+use Rattle.translator_sizes.proofs.block_size.Statement.{statement}
+use Rattle.translator_sizes.proofs.block_size.Tie as tie
 use Rattle.procedure_layout.proofs.layout.after_of.Reads as after-of-reads
 use Rattle.procedure_operations.proofs.operation.operation_at.Reads as operation-at-reads
 

@@ -1,9 +1,9 @@
--- `translator::sizes::call_size` meets its contract.
-use Rattle.translator.specs.SizeLaws.{plain-sum, guarded-sum}
+-- `translator_sizes::call_size` meets its contract.
+use Rattle.translator_sizes.specs.SizeLaws.{plain-sum, guarded-sum}
 use native.Mathlib.Omega.{arith}
 use borrow.Author.Needs.{needs}
-use Rattle.translator.proofs.sizes.call_size.Statement.{statement}
-use Rattle.translator.proofs.sizes.call_size.Tie as tie
+use Rattle.translator_sizes.proofs.call_size.Statement.{statement}
+use Rattle.translator_sizes.proofs.call_size.Tie as tie
 
 jump-size-requires : tie.Need-jump-size-requires
 jump-size-requires c κs = search needs

@@ -1,0 +1,9 @@
+-- The size of what a procedure file is translated to. Definitions, in reading order: Parts (the bytes of each part), Standing (what the functions are asked and give).
+pub mod Parts
+pub mod Standing
+-- Laws.
+pub mod SizeLaws
+pub mod OperationLaws
+pub mod CountLaws
+pub mod PartLaws
+pub mod FunctionLaws

@@ -1,0 +1,42 @@
+-- What the functions that count a block are asked, and what they give: an operation of an accepted file stands there; sizes.
+use Prim.Native.Nat.{ℕ, _≤_}
+use mathlib.Core.Path.{_≡_}
+use mathlib.Core.List.{List}
+use lib.ListN.{length}
+use Rattle.semantics.specs.Program.{variables, functionOf}
+use Rattle.semantics.specs.Translation.{number}
+use Rattle.procedure_operations.specs.declared.operation.Operation.{Operation}
+use Rattle.procedure_operations.specs.declared.operation.Operation.the-variants.{Constant, Copy, Difference, Call, Goto, Return, Branch, Raise, Refused}
+use Rattle.procedure_layout.specs.Layout.{maxVariables}
+use Rattle.procedure_file.specs.Check.{programOf}
+use Rattle.procedure_file.specs.FileInvariant.{FileInvariant, Stands}
+use Rattle.translator_sizes.specs.Parts.{bytesAt, labelBytes}
+
+-- An operation of a function with v variables stands at an offset.
+pub record OperationStands (s : List ℕ) (v at : ℕ) : Type 0 where
+  pub invariant : FileInvariant s
+  pub function : ℕ
+  pub stands : Stands s function at
+  pub vars : v ≡ variables (functionOf (programOf s) function)
+
+-- The argument count of a call is one of the constant table's.
+abbrev pub CountInTable : Operation → Type 0
+CountInTable (Constant x i next) = Unit {0}
+CountInTable (Copy x y next) = Unit {0}
+CountInTable (Difference x y z next) = Unit {0}
+CountInTable (Call x g n next) = n ≤ maxVariables
+CountInTable (Goto l next) = Unit {0}
+CountInTable (Return x next) = Unit {0}
+CountInTable (Branch y z l m next) = Unit {0}
+CountInTable (Raise next) = Unit {0}
+CountInTable (Refused r) = Unit {0}
+
+-- The size of a block's body, whatever number its function has.
+pub record BlockSize (s : List ℕ) (v h at r : ℕ) : Type 0 where
+  pub is : (base : ℕ) → r ≡ length (bytesAt s base v h at)
+  pub sizeBound : r ≤ 4194304
+
+-- The size of the part of a block.
+pub record LabelSize (s : List ℕ) (f l r : ℕ) : Type 0 where
+  pub is : r ≡ length (labelBytes s f l)
+  pub sizeBound : r ≤ 8388608
