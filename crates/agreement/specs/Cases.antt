@@ -1,6 +1,6 @@
 -- Document 01's starred cases ('The test procedure and its neighbours'), as one table under one theorem, by computation of the rules
 -- from the bytes of the files. Steps are bench, controller.
-use Prim.Native.Nat.{ℕ, _+_}
+use Prim.Native.Nat.{ℕ, _+_, _*_}
 use mathlib.Core.Path.{_≡_, refl}
 use mathlib.Core.List.{List, [], _∷_, _++_}
 use lib.IntN.{ℤ, pos, negsuc}
@@ -23,8 +23,12 @@ use Rattle.target_names.specs.Names as TagNames
 use Rattle.target_file.specs.Check as Target
 use Rattle.target_layout.specs.Layout as TargetLayout
 use Rattle.target_file.specs.Writing as Writing
-use Rattle.translator.specs.Translated.{translationOf}
-use Rattle.agreement.specs.Sides.{mainVerdict, wordsVerdict, judgedCall, sidesVerdict, tells, controllerBudget, sidesTell}
+use Rattle.translator.specs.Translated.{translationOf, roomVerdict}
+use Rattle.memory.specs.Frame.{frameSize}
+use Rattle.memory.specs.Call.{maxDepth, argumentsVerdict, wordsVerdict}
+use Rattle.runs.specs.Tells.{tells}
+use Rattle.agreement.specs.Statement.{controllerBudget}
+use Rattle.agreement.specs.Sides.{callVerdict, sidesVerdict, sidesTell}
 
 -- File T.
 abbrev pub fileT : List ℕ
@@ -68,7 +72,14 @@ pub data Row : Type 0 where
 abbrev pub Holds : Row → Type 0
 Holds (checks s v) = checkOf s ≡ v
 Holds (checksWithOneMore s v) = (b : ℕ) → checkOf (s ++ b ∷ []) ≡ v
-Holds (runs s args depth budget target stop n x m) = sidesTell s args depth budget 12288 8192 12288 ≡ tells target stop n x stop m
+Holds (runs s args depth budget target stop n x m) =
+    sidesTell s 0 args depth budget (frameSize * maxDepth) 8192 (frameSize * maxDepth)
+    ≡ tells
+    (record {
+      target = target;
+      bench = record { result = record { stop = stop; steps = n }; extras = x };
+      controller = record { stop = stop; steps = m };
+    })
 Holds (differs y z v) = minus y z ≡ v
 
 abbrev pub table : List Row
@@ -91,5 +102,5 @@ table =
     ∷ []
 
 pub cases : All Holds table
-unfolding sidesTell controllerBudget sidesVerdict judgedCall wordsVerdict mainVerdict translationOf checkOf programOf Layout.program Layout.function Layout.heading Layout.labelled Layout.block Layout.walk Operation.operationAt Operation.constantAt Operation.copyAt Operation.differenceAt Operation.callAt Operation.gotoAt Operation.returnAt Operation.branchAt Operation.endAt Fields.version Fields.count Fields.ended Fields.valueOf Names.namesOf Writing.writing Target.codeOf TargetLayout.code TargetLayout.functions TargetLayout.function TargetLayout.expression TargetLayout.pair Tag.tagAt Tag.constantAt Tag.copyAt Tag.differenceAt Tag.jumpAt Tag.resumeAt Tag.handleAt Tag.branchAt Tag.continuationAt Tag.continuationWithHandlerAt TagNames.judged wrapped minus atMost step bench code translate controlStep controller extras
+unfolding sidesTell controllerBudget sidesVerdict callVerdict argumentsVerdict wordsVerdict roomVerdict translationOf checkOf programOf Layout.program Layout.function Layout.heading Layout.labelled Layout.block Layout.walk Operation.operationAt Operation.constantAt Operation.copyAt Operation.differenceAt Operation.callAt Operation.gotoAt Operation.returnAt Operation.branchAt Operation.endAt Fields.head Fields.version Fields.count Fields.ended Fields.valueOf Names.namesOf Writing.writing Target.codeOf TargetLayout.code TargetLayout.targets TargetLayout.functions TargetLayout.function TargetLayout.expression TargetLayout.pair Tag.tagAt Tag.constantAt Tag.copyAt Tag.differenceAt Tag.jumpAt Tag.resumeAt Tag.handleAt Tag.branchAt Tag.continuationAt Tag.continuationWithHandlerAt TagNames.judged wrapped minus atMost step bench code translate controlStep controller extras
 cases = (refl, (refl, (refl, (refl, (refl, (refl, (refl, (refl, (refl, (refl, ((λ b. refl), (refl, (refl, (refl, (refl, tt)))))))))))))))

@@ -1,50 +1,107 @@
--- Demand 3 over files: for every accepted procedure file whose translation fits, the translation is an accepted translated file, the run
--- of the code that this file is agrees with the bench's run of the program that the procedure file is, and so do the answers of the two
--- machines. Whoever doubts the price list reads this file and `Agree` in the Statement of crate `semantics`; Theorem.antt proves it.
-use Prim.Native.Nat.{ℕ, _+_, _*_, _≤_}
+-- Demands 1 and 3 over files. Demand 1: each step of every accepted file of either kind has a next step or a named end. Demand 3: for every
+-- accepted procedure file whose translation fits, the translation is an accepted translated file, the run of the code that this file is
+-- agrees with the bench's run of the program that the procedure file is, and so do the answers of the two machines. Whoever doubts the
+-- price list reads this file and `Agree` in the Statement of crate `semantics`; Theorem.antt proves it.
+-- f is the start function, 0 for main; on the controller it is that entry's number.
+use Prim.Native.Nat.{ℕ, _+_, _*_, _≤_, _<_}
 use mathlib.Core.Path.{_≡_}
+use mathlib.Core.Logic.{_↔_}
 use mathlib.Core.List.{List}
 use lib.IntN.{ℤ}
 use lib.ListN.{length}
-use Rattle.semantics.specs.Program.{functionOf}
-use Rattle.semantics.specs.Run.{Stop, oneMoreIfDeep}
-use Rattle.semantics.specs.Bench.{bench}
-use Rattle.semantics.specs.Controller.{controller, targetOf}
+use Rattle.semantics.specs.Program.{FunctionNumber, functionOf}
+use Rattle.semantics.specs.Run.{deep, IsBroken, Result, oneMoreIfDeep, spentIfDeep}
+use Rattle.semantics.specs.Bench.{waiting, bench}
+use Rattle.semantics.specs.WellFormed.{WellFormedState}
+use Rattle.semantics.specs.Controller.{Control, inUse, controller, targetOf}
+use Rattle.semantics.specs.SlotStates.{StateKeeps}
+use Rattle.semantics.specs.Translation.{number}
 use Rattle.semantics.specs.Extras.{extras}
-use Rattle.semantics.specs.Statement.{Agree, waiting, inUse, Sound}
+use Rattle.semantics.specs.Statement.{Agree, Sound}
 use Rattle.parsing.specs.Parser.{accepted}
 use Rattle.parsing.specs.Bytes.{Bytes}
+use Rattle.memory.specs.Frame.{frameSize}
+use Rattle.memory.specs.Call.{maxDepth}
 use Rattle.procedure_file.specs.Check as Procedure
+use Rattle.target_tags.specs.Tag.{maxSlots}
+use Rattle.target_layout.specs.Layout.{fileLimit}
 use Rattle.target_file.specs.Check as Target
 use Rattle.translator.specs.Translated.{translationOf}
+use Rattle.runs.specs.Tells.{Tells, refuses, tells}
 use Rattle.bench.specs.Published as Bench
 use Rattle.controller.specs.Published as Controller
+
+-- ── Demand 1 ────────────────────────────────────────────────────────────────────────────────────
+
+-- An answer that is not the rules' `broken`; `result` gives the run of what an accepted call tells.
+abbrev pub NeverBroken : {A : Type 0} → (A → Result (Unit {0})) → Tells A → Type 0
+NeverBroken result (refuses number place) = Unit {0}
+NeverBroken result (tells a) = ¬ IsBroken (result a .stop)
+
+-- "Each of its steps has a next step or a named end, on bench and controller alike", for every accepted procedure file, also one whose
+-- translation does not fit, and for every accepted translated file, hand-written too; for every start function, every argument list of the
+-- right number, every depth limit and budget. A state of the bench has as many variables as its function, and so has each frame; a state
+-- of the controller keeps the slot rules, with 36 slots.
+pub record FilesMove : Type 0 where
+  pub bench : (s : List ℕ) → Bytes s → Procedure.checkOf s ≡ accepted
+      → (f : FunctionNumber) → f < length (Procedure.programOf s) → (args : List ℤ) → length args ≡ functionOf (Procedure.programOf s) f .params → (depth : ℕ)
+      → Sound (WellFormedState (Procedure.programOf s)) waiting depth (bench (Procedure.programOf s) f args depth)
+      × ((budget words : ℕ) → NeverBroken (λ t. t .result) (Bench.benchTells s f args depth budget words))
+  pub controller : (t : List ℕ) → Bytes t → Target.checkOf t ≡ accepted
+      → (g : ℕ) → g < length (Target.codeOf t) → (args : List ℤ) → length args ≡ targetOf (Target.codeOf t) g .params → (depth : ℕ)
+      → Sound (StateKeeps (Target.codeOf t) maxSlots) inUse depth (controller (Target.codeOf t) g args depth)
+      × ((budget words : ℕ) → NeverBroken (λ r. r) (Controller.controllerTells t g args depth budget words))
+
+-- ── Demand 3 ────────────────────────────────────────────────────────────────────────────────────
+
+-- The number of the entry of function f in the translation of the file s.
+abbrev pub entryOf : List ℕ → FunctionNumber → ℕ
+entryOf s f = number (Procedure.programOf s) f
+
+-- The runs of the translation of s, started at the entry of f, by budget.
+abbrev pub translationRun : List ℕ → FunctionNumber → List ℤ → ℕ → ℕ → Result Control
+translationRun s f args depth = controller (Target.codeOf (translationOf s)) (entryOf s f) args depth
+
+-- "The controller gets bench steps plus extras, one more where the bench stopped deep."
+unfoldable pub controllerBudget : Bench.Told → ℕ
+controllerBudget t = t .result .steps + t .extras + oneMoreIfDeep (t .result .stop)
+
+-- An answer that is deep.
+abbrev pub AnswersDeep : {A : Type 0} → (A → Result (Unit {0})) → Tells A → Type 0
+AnswersDeep result (refuses number place) = ⊥
+AnswersDeep result (tells a) = result a .stop ≡ deep tt
 
 -- What the machines answer, bytes in and answers out: the bench on the procedure file with a budget, and the controller on its translation
 -- with bench steps + extras, one more where the bench stopped deep. Neither refuses; both stopped alike (the same value, uncaught, spent
 -- or deep); controller steps = bench steps + extras.
-pub record AnswersAgree (s : List ℕ) (args : List ℤ) (depth budget frames records : ℕ) : Type 0 where
-  pub stop : Stop (Unit {0})
-  pub steps : ℕ
-  pub extras : ℕ
-  pub benchTold : Bench.benchTells s args depth budget frames ≡ Bench.tells stop steps extras
-  pub controllerTold : Controller.controllerTells (translationOf s) args depth (steps + extras + oneMoreIfDeep stop) records ≡ Controller.tells stop (steps + extras)
+pub record AnswersAgree (s : List ℕ) (f : FunctionNumber) (args : List ℤ) (depth budget frames records : ℕ) : Type 0 where
+  pub told : Bench.Told
+  pub benchTold : Bench.benchTells s f args depth budget frames ≡ tells told
+  pub controllerTold : Controller.controllerTells (translationOf s) (entryOf s f) args depth (controllerBudget told) records
+      ≡ tells (record { stop = told .result .stop; steps = told .result .steps + told .extras })
+  -- With exactly bench steps + extras it answers with that count too, spent where the bench stopped deep ..
+  pub exactly : Controller.controllerTells (translationOf s) (entryOf s f) args depth (told .result .steps + told .extras) records
+      ≡ tells (record { stop = spentIfDeep (told .result .stop); steps = told .result .steps + told .extras })
+  -- .. and with one step more for each, one answers deep exactly when the other does.
+  pub sameDeep : AnswersDeep (λ t. t .result) (Bench.benchTells s f args depth (told .result .steps + 1) frames)
+      ↔ AnswersDeep (λ r. r) (Controller.controllerTells (translationOf s) (entryOf s f) args depth (told .result .steps + told .extras + 1) records)
 
--- What is claimed of an accepted procedure file s, for arguments of the right number and a depth limit.
-pub record Claim (s : List ℕ) (args : List ℤ) (depth : ℕ) : Type 0 where
-  -- The translation is accepted, and its function 0 takes the arguments that main takes.
+-- What is claimed of an accepted procedure file s, for a start function, arguments of the right number and a depth limit.
+pub record Claim (s : List ℕ) (f : FunctionNumber) (args : List ℤ) (depth : ℕ) : Type 0 where
+  -- The translation is accepted, and the function's entry is there and takes the arguments that the function takes.
   pub isAccepted : Target.checkOf (translationOf s) ≡ accepted
-  pub arguments : length args ≡ targetOf (Target.codeOf (translationOf s)) 0 .params
+  pub entry : entryOf s f < length (Target.codeOf (translationOf s))
+  pub arguments : length args ≡ targetOf (Target.codeOf (translationOf s)) (entryOf s f) .params
   -- Each step has a next step or a named end, on bench and controller alike.
-  pub benchMoves : Sound waiting depth (bench (Procedure.programOf s) 0 args depth)
-  pub controllerMoves : Sound inUse depth (controller (Target.codeOf (translationOf s)) 0 args depth)
+  pub benchMoves : Sound (WellFormedState (Procedure.programOf s)) waiting depth (bench (Procedure.programOf s) f args depth)
+  pub controllerMoves : Sound (StateKeeps (Target.codeOf (translationOf s)) maxSlots) inUse depth (translationRun s f args depth)
   -- Ends, steps and states agree at every budget.
-  pub agree : Agree (Procedure.programOf s) (bench (Procedure.programOf s) 0 args depth) (extras (Procedure.programOf s) 0 args depth)
-      (controller (Target.codeOf (translationOf s)) 0 args depth)
+  pub agree : Agree (Procedure.programOf s) (bench (Procedure.programOf s) f args depth) (extras (Procedure.programOf s) f args depth) (translationRun s f args depth)
   -- So do the answers, for every depth limit to 256 and every budget, "each lent 48 words per frame of the limit or more".
-  pub answers : depth ≤ 256 → (budget frames records : ℕ) → 48 * depth ≤ frames → 48 * depth ≤ records → AnswersAgree s args depth budget frames records
+  pub answers : depth ≤ maxDepth → (budget frames records : ℕ) → frameSize * depth ≤ frames → frameSize * depth ≤ records → AnswersAgree s f args depth budget frames records
 
 -- "a procedure is accepted when none of 1 to 10 applies and its size limit is kept; its translation fits at 65,535 bytes or fewer."
 abbrev pub FilesAgree : Type 0
-FilesAgree = (s : List ℕ) → Bytes s → Procedure.checkOf s ≡ accepted → length (translationOf s) ≤ 65535
-    → (args : List ℤ) → length args ≡ functionOf (Procedure.programOf s) 0 .params → (depth : ℕ) → Claim s args depth
+FilesAgree = (s : List ℕ) → Bytes s → Procedure.checkOf s ≡ accepted → length (translationOf s) ≤ fileLimit
+    → (f : FunctionNumber) → f < length (Procedure.programOf s) → (args : List ℤ) → length args ≡ functionOf (Procedure.programOf s) f .params
+    → (depth : ℕ) → Claim s f args depth

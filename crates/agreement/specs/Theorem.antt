@@ -5,37 +5,39 @@ use mathlib.Core.Path.{_≡_, refl, sym, ap, _∙_, subst}
 use mathlib.Core.List.{List, [], _∷_}
 use lib.IntN.{ℤ}
 use lib.ListN.{length}
-use Rattle.semantics.specs.Program.{Block, constant, copy, difference, call, goto, return, branch, raise, Labelled, Function, Program, functionOf}
-use Rattle.semantics.specs.WellFormed.{All}
+use Rattle.semantics.specs.Program.{FunctionNumber, Block, constant, copy, difference, call, goto, return, branch, raise, Labelled, Function, Program, functionOf}
+use Rattle.semantics.specs.WellFormed.{All, WellFormedState}
 use Rattle.semantics.specs.Code.{Target, Code}
-use Rattle.semantics.specs.Run.{Stop, ended, spent, deep, broken, Result, told, oneMoreIfDeep}
-use Rattle.semantics.specs.Bench.{State, bench}
-use Rattle.semantics.specs.Controller.{Control, controller, targetOf, noTarget}
+use Rattle.semantics.specs.Run.{Stop, ended, spent, deep, broken, IsBroken, Result, told, oneMoreIfDeep, spentIfDeep}
+use Rattle.semantics.specs.Bench.{State, waiting, bench}
+use Rattle.semantics.specs.Controller.{Control, inUse, controller, targetOf, noTarget}
+use Rattle.semantics.specs.SlotStates.{StateKeeps}
 use Rattle.semantics.specs.Translation.{entryTarget, number, translate}
 use Rattle.semantics.specs.Extras.{extras}
-use Rattle.semantics.specs.Statement.{Agree, waiting, inUse, Sound}
+use Rattle.semantics.specs.Statement.{StopsMatch, Agree, Sound}
 use Rattle.semantics.specs.ListLaws.{at-below, getD-at}
 use Rattle.semantics.specs.TranslationLaws.{entry-at}
 use Rattle.semantics.specs.Theorem.{demand3, bench-is-sound}
 use Rattle.semantics.specs.SlotStateLaws.{controller-is-sound}
-use Rattle.semantics.specs.StopLaws.{Together, together, bench-again, controller-left}
-use Rattle.parsing.specs.Parser.{Verdict, accepted, orElse}
+use Rattle.semantics.specs.StopLaws.{Together, together, Exactly, exactly, bench-again, controller-left}
+use Rattle.parsing.specs.Parser.{Verdict, accepted, refused}
 use Rattle.parsing.specs.Bytes.{Bytes}
-use Rattle.memory.specs.Call.{callVerdict}
-use Rattle.memory.specs.CallLaws.{verdict-accepted}
+use Rattle.memory.specs.CallLaws.{call-fits}
+use Rattle.runs.specs.Tells.{tells, tellsBy, toldOf}
 use Rattle.procedure_names.specs.Writing.{ValuesFit, FunctionInRange, InRange}
 use Rattle.procedure_file.specs.Check as Procedure
 use Rattle.procedure_file.specs.Accepted.{HasFile}
 use Rattle.procedure_file.specs.AcceptedLaws.{is-writing}
 use Rattle.target_file.specs.Check as Target
 use Rattle.target_file.specs.Translated.{BlockFits, FunctionFits, Source}
+use Rattle.target_file.specs.AcceptedLaws as TargetLaws
 use Rattle.target_file.specs.TranslatedLaws.{translation-accepted, translation-rules}
 use Rattle.translator.specs.Translated.{translationOf}
 use Rattle.bench.specs.Published.{benchVerdict, benchTells}
 use Rattle.bench.specs.Published as Bench
 use Rattle.controller.specs.Published.{controllerVerdict, controllerTells}
 use Rattle.controller.specs.Published as Controller
-use Rattle.agreement.specs.Statement.{AnswersAgree, Claim, FilesAgree}
+use Rattle.agreement.specs.Statement.{NeverBroken, FilesMove, entryOf, translationRun, controllerBudget, AnswersDeep, AnswersAgree, Claim, FilesAgree}
 
 -- The ranges of a procedure, as the crate of translated files has them.
 block-fits : (b : Block) → ValuesFit b → BlockFits b
@@ -71,29 +73,17 @@ source P h =
 
 -- ── What each machine tells where it does not refuse ────────────────────────────────────────────
 
-module _ (s : List ℕ) (args : List ℤ) (depth frames : ℕ) (ok : Procedure.checkOf s ≡ accepted) (la : length args ≡ functionOf (Procedure.programOf s) 0 .params)
-    (depthBound : depth ≤ 256) (room : 48 * depth ≤ frames) where
-  pub bench-accepts : benchVerdict s (length args) depth frames ≡ accepted
-  unfolding benchVerdict
-  bench-accepts =
-      ap (λ (v : Verdict). orElse v (callVerdict (length args) (functionOf (Procedure.programOf s) 0 .params) depth frames)) ok
-      ∙ sym (verdict-accepted (length args) (functionOf (Procedure.programOf s) 0 .params) depth frames la depthBound room)
+module _ (s : List ℕ) (f : FunctionNumber) (args : List ℤ) (depth frames : ℕ) (ok : Procedure.checkOf s ≡ accepted)
+    (la : length args ≡ functionOf (Procedure.programOf s) f .params) (depthBound : depth ≤ 256) (room : 48 * depth ≤ frames) where
+  pub bench-tells : (budget : ℕ) → benchTells s f args depth budget frames ≡ tells (Bench.runTells s f args depth budget)
+  unfolding benchTells benchVerdict
+  bench-tells budget = rw (ok, call-fits (length args) (functionOf (Procedure.programOf s) f .params) depth frames la depthBound room)
 
-  pub bench-tells : (budget : ℕ) → benchTells s args depth budget frames ≡ Bench.tells (told (bench (Procedure.programOf s) 0 args depth budget .stop)) (bench (Procedure.programOf s) 0 args depth budget .steps) (extras (Procedure.programOf s) 0 args depth budget)
-  unfolding benchTells
-  bench-tells budget = ap (λ (v : Verdict). Bench.tellsBy v (bench (Procedure.programOf s) 0 args depth budget) (extras (Procedure.programOf s) 0 args depth budget)) bench-accepts
-
-module _ (t : List ℕ) (args : List ℤ) (depth records : ℕ) (ok : Target.checkOf t ≡ accepted) (la : length args ≡ targetOf (Target.codeOf t) 0 .params)
+module _ (t : List ℕ) (g : ℕ) (args : List ℤ) (depth records : ℕ) (ok : Target.checkOf t ≡ accepted) (la : length args ≡ targetOf (Target.codeOf t) g .params)
     (depthBound : depth ≤ 256) (room : 48 * depth ≤ records) where
-  pub controller-accepts : controllerVerdict t (length args) depth records ≡ accepted
-  unfolding controllerVerdict
-  controller-accepts =
-      ap (λ (v : Verdict). orElse v (callVerdict (length args) (targetOf (Target.codeOf t) 0 .params) depth records)) ok
-      ∙ sym (verdict-accepted (length args) (targetOf (Target.codeOf t) 0 .params) depth records la depthBound room)
-
-  pub controller-tells : (budget : ℕ) → controllerTells t args depth budget records ≡ Controller.tells (told (controller (Target.codeOf t) 0 args depth budget .stop)) (controller (Target.codeOf t) 0 args depth budget .steps)
-  unfolding controllerTells
-  controller-tells budget = ap (λ (v : Verdict). Controller.tellsBy v (controller (Target.codeOf t) 0 args depth budget)) controller-accepts
+  pub controller-tells : (budget : ℕ) → controllerTells t g args depth budget records ≡ tells (toldOf (controller (Target.codeOf t) g args depth budget))
+  unfolding controllerTells controllerVerdict
+  controller-tells budget = rw (ok, call-fits (length args) (targetOf (Target.codeOf t) g .params) depth records la depthBound room)
 
 pub told-more : {S : Type 0} (x : Stop S) → oneMoreIfDeep (told x) ≡ oneMoreIfDeep x
 told-more (ended e) = refl
@@ -103,53 +93,77 @@ told-more (broken s) = refl
 
 -- ── From the rules to the answers ───────────────────────────────────────────────────────────────
 
-module _ (s : List ℕ) (args : List ℤ) (depth : ℕ) (ok : Procedure.checkOf s ≡ accepted) (la : length args ≡ functionOf (Procedure.programOf s) 0 .params)
-    (accepts : Target.checkOf (translationOf s) ≡ accepted) (lt : length args ≡ targetOf (Target.codeOf (translationOf s)) 0 .params)
-    (benchMoves : Sound waiting depth (bench (Procedure.programOf s) 0 args depth))
-    (controllerMoves : Sound inUse depth (controller (Target.codeOf (translationOf s)) 0 args depth))
-    (agree : Agree (Procedure.programOf s) (bench (Procedure.programOf s) 0 args depth) (extras (Procedure.programOf s) 0 args depth) (controller (Target.codeOf (translationOf s)) 0 args depth)) where
+module _ (s : List ℕ) (f : FunctionNumber) (args : List ℤ) (depth : ℕ) (ok : Procedure.checkOf s ≡ accepted) (la : length args ≡ functionOf (Procedure.programOf s) f .params)
+    (accepts : Target.checkOf (translationOf s) ≡ accepted) (there : entryOf s f < length (Target.codeOf (translationOf s)))
+    (lt : length args ≡ targetOf (Target.codeOf (translationOf s)) (entryOf s f) .params)
+    (benchMoves : Sound (WellFormedState (Procedure.programOf s)) waiting depth (bench (Procedure.programOf s) f args depth))
+    (controllerMoves : Sound (StateKeeps (Target.codeOf (translationOf s)) 36) inUse depth (translationRun s f args depth))
+    (agree : Agree (Procedure.programOf s) (bench (Procedure.programOf s) f args depth) (extras (Procedure.programOf s) f args depth) (translationRun s f args depth)) where
   abbrev P : Program
   P = Procedure.programOf s
 
-  abbrev C : ℕ → Result Control
-  C = controller (Target.codeOf (translationOf s)) 0 args depth
+  runs-together : (budget : ℕ) → Together P (bench P f args depth budget) (extras P f args depth budget) (translationRun s f args depth)
+  runs-together = together P agree (benchMoves .moves) (controllerMoves .moves) (bench-again P f args depth) (controller-left (Target.codeOf (translationOf s)) (entryOf s f) args depth)
 
-  pub runs-together : (budget : ℕ) → Together P (bench P 0 args depth budget) (extras P 0 args depth budget) C
-  runs-together = together P agree (benchMoves .moves) (controllerMoves .moves) (bench-again P 0 args depth) (controller-left (Target.codeOf (translationOf s)) 0 args depth)
+  runs-exactly : (budget : ℕ) → Exactly (bench P f args depth) (extras P f args depth) (translationRun s f args depth) budget
+  runs-exactly = exactly P agree (benchMoves .moves) (controllerMoves .moves) (bench-again P f args depth) (controller-left (Target.codeOf (translationOf s)) (entryOf s f) args depth)
 
-  answers-agree : depth ≤ 256 → (budget frames records : ℕ) → 48 * depth ≤ frames → 48 * depth ≤ records → AnswersAgree s args depth budget frames records
-  answers-agree depthBound budget frames records lf lr =
+  module _ (budget : ℕ) where
+    abbrev b : Result State
+    b = bench P f args depth budget
+
+    abbrev x : ℕ
+    x = extras P f args depth budget
+
+    pub budget-is : controllerBudget (Bench.runTells s f args depth budget) ≡ b .steps + x + oneMoreIfDeep (b .stop)
+    unfolding controllerBudget
+    budget-is = ap (λ (k : ℕ). b .steps + x + k) (told-more (b .stop))
+
+    pub ran-alike : toldOf (translationRun s f args depth (controllerBudget (Bench.runTells s f args depth budget))) ≡ record { stop = told (b .stop); steps = b .steps + x }
+    ran-alike = rw (budget-is, runs-together budget .stops .alike, runs-together budget .steps)
+
+    pub stops-match : StopsMatch P (b .stop) (translationRun s f args depth (controllerBudget (Bench.runTells s f args depth budget)) .stop)
+    stops-match = rw budget-is (runs-together budget .stops)
+
+    answers-agree : depth ≤ 256 → (frames records : ℕ) → 48 * depth ≤ frames → 48 * depth ≤ records → AnswersAgree s f args depth budget frames records
+    answers-agree depthBound frames records lf lr =
+        record {
+          told = Bench.runTells s f args depth budget;
+          benchTold = bench-tells s f args depth frames ok la depthBound lf budget;
+          controllerTold = answers (controllerBudget (Bench.runTells s f args depth budget)) ∙ ap tells ran-alike;
+          exactly = answers (b .steps + x) ∙ rw (runs-exactly budget .stop, runs-exactly budget .steps) refl;
+          sameDeep = rw (bench-tells s f args depth frames ok la depthBound lf (b .steps + 1), answers (b .steps + x + 1)) (runs-exactly budget .sameDeep);
+        }
+      where
+        answers : (n : ℕ) → controllerTells (translationOf s) (entryOf s f) args depth n records ≡ tells (toldOf (translationRun s f args depth n))
+        answers = controller-tells (translationOf s) (entryOf s f) args depth records accepts lt depthBound lr
+
+  claimed : Claim s f args depth
+  claimed =
       record {
-        stop = told (b .stop);
-        steps = b .steps;
-        extras = x;
-        benchTold = bench-tells s args depth frames ok la depthBound lf budget;
-        controllerTold =
-            ap (λ (k : ℕ). controllerTells (translationOf s) args depth (b .steps + x + k) records) (told-more (b .stop))
-            ∙ (controller-tells (translationOf s) args depth records accepts lt depthBound lr (b .steps + x + oneMoreIfDeep (b .stop))
-            ∙ (ap (λ (y : Stop (Unit {0})). Controller.tells y (C (b .steps + x + oneMoreIfDeep (b .stop)) .steps)) (runs-together budget .stops .alike)
-            ∙ ap (λ (k : ℕ). Controller.tells (told (b .stop)) k) (runs-together budget .steps)));
+        isAccepted = accepts;
+        entry = there;
+        arguments = lt;
+        benchMoves = benchMoves;
+        controllerMoves = controllerMoves;
+        agree = agree;
+        answers = λ d n. answers-agree n d;
       }
-    where
-      b : Result State
-      b = bench P 0 args depth budget
-
-      x : ℕ
-      x = extras P 0 args depth budget
-
-  claimed : Claim s args depth
-  claimed = record { isAccepted = accepts; arguments = lt; benchMoves = benchMoves; controllerMoves = controllerMoves; agree = agree; answers = answers-agree }
 
 pub files-agree : FilesAgree
 unfolding translationOf
-files-agree s bytes ok fits args la depth =
-    claimed s args depth ok la (translation-accepted .fits P S .1 fits) (la ∙ sym (ap (λ (D : Target). D .params) main-is))
-    (bench-is-sound P (h .wellFormed) 0 (S .some) args la depth)
-    (subst (λ (Q : Code). Sound inUse depth (controller Q 0 args depth)) (sym back) (controller-is-sound 36 (translate P) (translation-rules P S) 0 there args (la ∙ sym (ap (λ (D : Target). D .params) entry-is)) depth))
-    (subst (λ (Q : Code). Agree P (bench P 0 args depth) (extras P 0 args depth) (controller Q 0 args depth)) (sym back) (demand3 P (h .wellFormed) 0 (S .some) args la depth))
+files-agree s bytes ok fits f below args la depth =
+    claimed s f args depth ok la (translation-accepted .fits P S .1 fits) (subst (λ (Q : Code). g < length Q) (sym back) there)
+    (la ∙ sym (ap (λ (D : Target). D .params) (ap (λ (Q : Code). targetOf Q g) back ∙ entry-is)))
+    (bench-is-sound P (h .wellFormed) f below args la depth)
+    (subst (λ (Q : Code). Sound (StateKeeps Q 36) inUse depth (controller Q g args depth)) (sym back) (controller-is-sound 36 (translate P) (translation-rules P S) g there args (la ∙ sym (ap (λ (D : Target). D .params) entry-is)) depth))
+    (subst (λ (Q : Code). Agree P (bench P f args depth) (extras P f args depth) (controller Q g args depth)) (sym back) (demand3 P (h .wellFormed) f below args la depth))
   where
     P : Program
     P = Procedure.programOf s
+
+    g : ℕ
+    g = number P f
 
     h : HasFile P
     h = is-writing s bytes ok .0
@@ -160,11 +174,32 @@ files-agree s bytes ok fits args la depth =
     back : Target.codeOf (translationOf s) ≡ translate P
     back = translation-accepted .readsBack P S
 
-    entry-is : targetOf (translate P) 0 ≡ entryTarget (number P) 0 (functionOf P 0)
-    entry-is = getD-at (translate P) 0 (entryTarget (number P) 0 (functionOf P 0)) noTarget (entry-at P 0 (S .some))
+    entry-is : targetOf (translate P) g ≡ entryTarget (number P) g (functionOf P f)
+    entry-is = getD-at (translate P) g (entryTarget (number P) g (functionOf P f)) noTarget (entry-at P f below)
 
-    main-is : targetOf (Target.codeOf (translationOf s)) 0 ≡ entryTarget (number P) 0 (functionOf P 0)
-    main-is = ap (λ (Q : Code). targetOf Q 0) back ∙ entry-is
+    there : g < length (translate P)
+    there = at-below (translate P) g (entryTarget (number P) g (functionOf P f)) (entry-at P f below)
 
-    there : 0 < length (translate P)
-    there = at-below (translate P) 0 (entryTarget (number P) 0 (functionOf P 0)) (entry-at P 0 (S .some))
+-- ── Demand 1 ────────────────────────────────────────────────────────────────────────────────────
+
+told-broken : {S : Type 0} (x : Stop S) → ¬ IsBroken x → ¬ IsBroken (told x)
+told-broken (ended e) n b = n b
+told-broken (spent s) n b = n b
+told-broken (deep s) n b = n b
+told-broken (broken s) n b = n b
+
+never-broken : {A : Type 0} (result : A → Result (Unit {0})) (a : A) → ¬ IsBroken (result a .stop) → (v : Verdict) → NeverBroken result (tellsBy v a)
+never-broken result a n accepted = n
+never-broken result a n (refused number place) = tt
+
+pub files-move : FilesMove
+unfolding benchTells controllerTells
+files-move =
+    record {
+      bench = λ s bytes ok f below args la depth.
+          let S = bench-is-sound (Procedure.programOf s) (is-writing s bytes ok .0 .wellFormed) f below args la depth in
+          (S, λ budget words. never-broken (λ t. t .result) (Bench.runTells s f args depth budget) (told-broken (bench (Procedure.programOf s) f args depth budget .stop) (S .moves budget)) (benchVerdict s f (length args) depth words));
+      controller = λ t bytes ok g below args la depth.
+          let S = controller-is-sound 36 (Target.codeOf t) (TargetLaws.is-writing t bytes ok .0 .rules) g below args la depth in
+          (S, λ budget words. never-broken (λ r. r) (toldOf (controller (Target.codeOf t) g args depth budget)) (told-broken (controller (Target.codeOf t) g args depth budget .stop) (S .moves budget)) (controllerVerdict t g (length args) depth words));
+    }

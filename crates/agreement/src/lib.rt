@@ -1,18 +1,26 @@
 // The side-by-side call: a procedure is translated, and run on both machines.
+use casts::byte_number;
+use memory::arguments_checked;
+use memory::words_checked;
 use parsing::Checked;
 use parsing::Refusal;
-use procedure_file::lookup::load;
-use translator::Translated;
-use translator::translate;
+use parsing::or_else;
+use procedure_file::check::load;
+use procedure_file::table::params_of;
+use runs::one_more_if_deep;
+use target_file::table::table_of;
+use translator::parts::put_file;
+use translator::room_checked;
+use translator::translation_size;
 ghost use mathlib.Core.Path.{_≡_};
-ghost use lib.Dec.{leb};
+ghost use Prim.Native.Nat.{_<_};
 ghost use lib.ListN.{length};
-ghost use Rattle.semantics.specs.Run.{oneMoreIfDeep};
-ghost use Rattle.parsing.specs.Parser.{verdictOf, accepted};
-ghost use Rattle.procedure_file.specs.Check.{checkOf};
+ghost use Rattle.parsing.specs.Parser.{verdictOf};
+ghost use Rattle.procedure_file.specs.Check.{programOf};
+ghost use Rattle.procedure_file.specs.Loaded.{Loaded};
 ghost use Rattle.translator.specs.Translated.{translationOf};
-ghost use Rattle.bench.specs.Published.{stoppedAs};
-ghost use Rattle.agreement.specs.Sides.{mainVerdict, wordsVerdict, judgedCall, sidesTold, sidesTell, SidesMemory, CallAccepted, MachinesRan};
+ghost use Rattle.agreement.specs.Statement.{entryOf};
+ghost use Rattle.agreement.specs.Sides.{callVerdict, sidesTold, sidesTell, SidesMemory, refusedSides, CallFits, MachinesRan};
 
 // The answer of the call: the verdict on it; where it is accepted the bytes of the translation and the answers of both machines.
 pub struct Sides {
@@ -22,127 +30,50 @@ pub struct Sides {
     pub controller: controller::machine::Answer,
 }
 
-// A refusal of the caller: "places of 14, 16 and 17 are 0".
-fn turned_down(number: u8) -> Checked
-    ensures { λ r. ⌜ r ≡ Checked.Refused (record { number = number; place = 0 }) ⌝ }
+// What a call on an accepted file is refused for: 14, 17, then 16.
+fn call_judged(
+    given: usize,
+    wanted: usize,
+    size: usize,
+    room: usize,
+    depth: usize,
+    frames: usize,
+    records: usize,
+) -> Checked
+    ensures { λ r. ⌜ verdictOf r ≡ callVerdict given wanted size room depth frames records ⌝ }
 {
-    Checked::Refused(Refusal {
-        number: number,
-        place: 0,
-    })
+    let words = or_else(words_checked(depth, frames), words_checked(depth, records));
+    let memory = or_else(room_checked(size, room), words);
+    or_else(arguments_checked(given, wanted), memory)
 }
 
-// The file's own checks, then 14.
-fn main_checked(file: &[u8], given: usize) -> Checked
-    ensures { λ r. ⌜ verdictOf r ≡ mainVerdict (now (file .entry)) given ⌝ }
-{
-    let mut starts = [0u16; 2048];
-    let mut handlers = [0u8; 2048];
-    let mut params = [0u8; 32];
-    let mut locals = [0u8; 32];
-    let mut blocks = [0u8; 32];
-    match load(
-        file,
-        &mut starts,
-        &mut handlers,
-        &mut params,
-        &mut locals,
-        &mut blocks,
-    ) {
-        Checked::Refused(r) => {
-            return Checked::Refused(r);
-        }
-        Checked::Accepted => {}
-    }
-    let wanted = params[0] as usize;
-    if given != wanted {
-        return turned_down(14);
-    }
-    Checked::Accepted
-}
-
-// Whether the translation of an accepted file has at most 65,535 bytes: a translation into one byte of room is refused with 17 where not.
-fn translation_fits(file: &[u8]) -> bool
-    requires { ⌜ checkOf (now file) ≡ accepted ⌝ }
-    ensures { λ r. ⌜ r ≡ leb (length (translationOf (now (file .entry)))) 65535 ⌝ }
-{
-    let mut none = [0u8; 1];
-    match translate(file, &mut none) {
-        Translated::Written(_) => true,
-        Translated::Refused(r) => {
-            if r.number == 17 {
-                return false;
-            }
-            true
-        }
-    }
-}
-
-// 16 for the depth, the words for frames and the words for records.
-fn words_judged(depth: usize, frames: usize, records: usize) -> Checked
-    ensures { λ r. ⌜ verdictOf r ≡ wordsVerdict depth frames records ⌝ }
-{
-    if 256 < depth {
-        return turned_down(16);
-    }
-    let words = 48 * depth;
-    if frames < words {
-        return turned_down(16);
-    }
-    if records < words {
-        return turned_down(16);
-    }
-    Checked::Accepted
-}
-
-// All that the call is refused for but the room for the translation: the file's own checks, 14, 17, then 16.
-fn call_judged(file: &[u8], given: usize, depth: usize, frames: usize, records: usize) -> Checked
-    ensures { λ r. ⌜ verdictOf r ≡ judgedCall (now (file .entry)) given depth frames records ⌝ }
-{
-    match main_checked(file, given) {
-        Checked::Refused(r) => {
-            return Checked::Refused(r);
-        }
-        Checked::Accepted => {}
-    }
-    if translation_fits(file) {
-        return words_judged(depth, frames, records);
-    }
-    turned_down(17)
-}
-
-// "One more where the bench stopped deep."
-fn one_more_if_deep(stopped: bench::machine::Stopped) -> u64
-    ensures { λ r. ⌜ r ≡ oneMoreIfDeep (stoppedAs stopped) ⌝ }
-{
-    match stopped {
-        bench::machine::Stopped::Value(_) => 0,
-        bench::machine::Stopped::Uncaught => 0,
-        bench::machine::Stopped::Spent => 0,
-        bench::machine::Stopped::Deep => 1,
-    }
-}
-
-// Both runs, the translation made: the controller gets bench steps plus extras, one more where the bench stopped deep.
+// Both runs from function f, the translation made, in which f's entry has number g: the controller gets bench steps plus extras, one more
+// where the bench stopped deep.
 fn run_both(
     file: &[u8],
+    starts: &[u16; 2048],
+    f: usize,
     target: &[u8],
+    g: usize,
     arguments: &[i32],
     depth: usize,
     budget: u32,
     frames: &mut [i32],
     records: &mut [i32],
 ) -> Sides
-    requires { ⌜ CallAccepted (now file) (now target) (now arguments) depth (now frames) (now records) ⌝ }
-    ensures { λ a. ⌜ MachinesRan (now (file .entry)) (now (arguments .entry)) depth budget a (now (frames .entry)) (now (frames .exit)) (now (records .entry)) (now (records .exit)) ⌝ }
+    requires { ⌜ Loaded (now file) (now starts) ⌝ }
+    requires { ⌜ CallFits (now file) f (now arguments) depth (now frames) (now records) ⌝ }
+    requires { ⌜ (now target ≡ translationOf (now file)) × (g ≡ entryOf (now file) f) ⌝ }
+    ensures { λ a. ⌜ MachinesRan (now (file .entry)) f (now (arguments .entry)) depth budget a (now (frames .entry)) (now (frames .exit)) (now (records .entry)) (now (records .exit)) ⌝ }
 {
-    let b = bench::machine::run(file, arguments, depth, budget, frames);
+    let b = bench::machine::run_loaded(file, starts, f, arguments, depth, budget as u64, frames);
     let stopped = b.stopped;
     let more = one_more_if_deep(stopped);
     let taken = b.steps;
     let counted = taken + b.extras;
     let steps = counted + more;
-    let c = controller::machine::run(target, arguments, depth, steps, records);
+    let bodies = table_of(target);
+    let c = controller::machine::run_loaded(target, &bodies, g, arguments, depth, steps, records);
     Sides {
         verdict: Checked::Accepted,
         target: target.len(),
@@ -153,33 +84,63 @@ fn run_both(
 
 // The answer of a call that is refused: nothing was translated or run.
 fn refused(r: Refusal) -> Sides
-    ensures { λ a. ⌜ a .verdict ≡ Checked.Refused r ⌝ }
+    ensures { λ a. ⌜ a ≡ refusedSides r ⌝ }
 {
     Sides {
         verdict: Checked::Refused(r),
         target: 0,
-        bench: bench::machine::Answer {
-            verdict: Checked::Refused(r),
-            stopped: bench::machine::Stopped::Spent,
-            steps: 0,
-            extras: 0,
-            regs: bench_step::step::Regs {
-                function: 0,
-                handler: 0,
-                at: 0,
-                waiting: 0,
-                extras: 0,
-            },
-            vars: [0i32; 32],
-        },
-        controller: controller::machine::Answer {
-            verdict: Checked::Refused(r),
-            stopped: controller::machine::Stopped::Spent,
-            steps: 0,
-            regs: controller_step::step::Regs { at: 0, records: 0 },
-            slots: [0i32; 36],
-        },
+        bench: bench::machine::refused(r),
+        controller: controller::machine::refused(r),
     }
+}
+
+// The call on a loaded file, from its function f, whose entry in the translation has number g.
+pub fn sides_loaded(
+    file: &[u8],
+    starts: &[u16; 2048],
+    f: usize,
+    g: usize,
+    arguments: &[i32],
+    depth: usize,
+    budget: u32,
+    frames: &mut [i32],
+    room: &mut [u8],
+    records: &mut [i32],
+) -> Sides
+    requires { ⌜ Loaded (now file) (now starts) ⌝ }
+    requires { ⌜ (f < length (programOf (now file))) × (g ≡ entryOf (now file) f) ⌝ }
+    ensures tells { λ a. ⌜ sidesTold a ≡ sidesTell (now (file .entry)) f (now (arguments .entry)) depth budget (length (now (frames .entry))) (length (now (room .entry))) (length (now (records .entry))) ⌝ }
+    ensures memory { λ a. ⌜ SidesMemory (now (file .entry)) f (now (arguments .entry)) depth budget a (record { frames = now (frames .entry); room = now (room .entry); records = now (records .entry) }) (record { frames = now (frames .exit); room = now (room .exit); records = now (records .exit) }) ⌝ }
+{
+    let wanted = byte_number(params_of(file, starts, f));
+    let size = translation_size(file, starts);
+    match call_judged(
+        arguments.len(),
+        wanted,
+        size,
+        room.len(),
+        depth,
+        frames.len(),
+        records.len(),
+    ) {
+        Checked::Refused(r) => {
+            return refused(r);
+        }
+        Checked::Accepted => {}
+    }
+    put_file(file, starts, room);
+    run_both(
+        file,
+        starts,
+        f,
+        &room[..size],
+        g,
+        arguments,
+        depth,
+        budget,
+        frames,
+        records,
+    )
 }
 
 // Translates a procedure file into the room lent, runs it on the bench, and runs the translation on the controller with bench steps plus
@@ -193,24 +154,22 @@ pub fn side_by_side(
     room: &mut [u8],
     records: &mut [i32],
 ) -> Sides
-    ensures tells { λ a. ⌜ sidesTold a ≡ sidesTell (now (file .entry)) (now (arguments .entry)) depth budget (length (now (frames .entry))) (length (now (room .entry))) (length (now (records .entry))) ⌝ }
-    ensures memory { λ a. ⌜ SidesMemory (now (file .entry)) (now (arguments .entry)) depth budget a (now (frames .entry)) (now (frames .exit)) (now (room .entry)) (now (room .exit)) (now (records .entry)) (now (records .exit)) ⌝ }
+    ensures tells { λ a. ⌜ sidesTold a ≡ sidesTell (now (file .entry)) 0 (now (arguments .entry)) depth budget (length (now (frames .entry))) (length (now (room .entry))) (length (now (records .entry))) ⌝ }
+    ensures memory { λ a. ⌜ SidesMemory (now (file .entry)) 0 (now (arguments .entry)) depth budget a (record { frames = now (frames .entry); room = now (room .entry); records = now (records .entry) }) (record { frames = now (frames .exit); room = now (room .exit); records = now (records .exit) }) ⌝ }
 {
-    match call_judged(file, arguments.len(), depth, frames.len(), records.len()) {
-        Checked::Refused(r) => {
-            return refused(r);
-        }
-        Checked::Accepted => {}
-    }
-    match translate(file, room) {
-        Translated::Refused(r) => refused(r),
-        Translated::Written(size) => run_both(
+    let mut starts = [0u16; 2048];
+    match load(file, &mut starts) {
+        Checked::Refused(r) => refused(r),
+        Checked::Accepted => sides_loaded(
             file,
-            &room[..size],
+            &starts,
+            0,
+            0,
             arguments,
             depth,
             budget,
             frames,
+            room,
             records,
         ),
     }
