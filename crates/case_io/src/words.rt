@@ -4,6 +4,9 @@ use crate::print::refusal;
 use crate::print::say;
 use crate::print::value;
 use parsing::Refusal;
+use runs::End;
+use runs::Stopped;
+use runs::in_use;
 ghost use Prim.Native.Nat.{_+_, _-_, _*_, min};
 ghost use mathlib.Core.Path.{_≡_};
 ghost use lib.ListN.{length};
@@ -41,6 +44,35 @@ pub fn all_are(words: &[i32], x: i32) -> bool
         i += 1;
     }
     true
+}
+
+// How a run ended.
+fn print_end(e: End) {
+    match e {
+        End::Value(z) => {
+            say(b"value");
+            value(z);
+        }
+        End::Uncaught => {
+            say(b"uncaught");
+        }
+    }
+}
+
+// How a run stopped; the answer is how many of n frames are then in use.
+pub fn print_stop(stopped: Stopped, n: usize) -> usize {
+    match stopped {
+        Stopped::Ended(e) => {
+            print_end(e);
+        }
+        Stopped::Spent => {
+            say(b"spent");
+        }
+        Stopped::Deep => {
+            say(b"deep");
+        }
+    }
+    in_use(stopped, n)
 }
 
 // The first k words of each of the oldest frames, `frames` of them.

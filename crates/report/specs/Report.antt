@@ -5,10 +5,18 @@ use mathlib.Core.List.{List, [], _∷_, _++_}
 use lib.Dec.{leb}
 use lib.IntN.{ℤ}
 use lib.ListN.{length, getD, drop}
-use Rattle.parsing.specs.Fields.{valueOf}
+use Rattle.parsing.specs.declared.Scan.{Scan}
+use Rattle.parsing.specs.declared.Scan.the-variants.{Past, Stopped}
+use Rattle.parsing.specs.Fields.{head, valueOf}
 use Rattle.text.specs.Text.{bothText, refusedText, noHeaderText}
-use Rattle.translator.specs.Translated.{Outcome, written, turnedDown, answerOf}
-use Rattle.agreement.specs.Sides.{Tells, refuses, tells, sidesTell}
+use Rattle.parsing.specs.Parser.{Verdict, accepted, refused, orElse, pastOf}
+use Rattle.memory.specs.Frame.{frameSize}
+use Rattle.memory.specs.Call.{maxDepth}
+use Rattle.procedure_layout.specs.Layout.{spf}
+use Rattle.procedure_file.specs.Check.{checkOf}
+use Rattle.translator.specs.Translated.{translationOf, roomVerdict}
+use Rattle.runs.specs.Tells.{Tells, refuses, tells}
+use Rattle.agreement.specs.Sides.{Told, sidesTell}
 
 -- A field of 16 bits, and one of 32, the low byte first.
 abbrev pub pairOf : ℕ → ℕ → ℕ
@@ -44,21 +52,31 @@ abbrev pub headerOf : List ℕ → ℕ
 headerOf s = 4 * countOf s + 7
 
 -- Both runs, or the refusal.
-unfoldable pub sidesText : Tells → List ℕ
+unfoldable pub sidesText : Tells Told → List ℕ
 sidesText (refuses number place) = refusedText number place
-sidesText (tells target b steps x c controlled) = bothText target b steps c controlled
+sidesText (tells t) = bothText (t .target) (t .bench .result .stop) (t .bench .result .steps) (t .controller .stop) (t .controller .steps)
 
--- "It lends 8,192 bytes for the translation, made before either run, so its 16 comes before a run's 14."
-unfoldable pub translatedText : Outcome → Tells → List ℕ
-translatedText (turnedDown number place) t = refusedText number place
-translatedText (written n) t = sidesText t
+-- The text by a verdict: the refusal, or that of what was accepted.
+abbrev pub textBy : Verdict → List ℕ → List ℕ
+textBy accepted text = text
+textBy (refused number place) text = refusedText number place
 
--- "Its file limit is 2,048 (15 at 2048)." Each machine is lent 48 words for each of 256 frames.
+-- Of an accepted file: "it lends 8,192 bytes for the translation, made before either run, so its 16 comes before a run's 14." Each machine
+-- is lent 48 words for each of 256 frames.
+unfoldable pub loadedText : List ℕ → List ℤ → ℕ → ℕ → List ℕ
+loadedText s args depth budget = textBy (roomVerdict (length (translationOf s)) 8192) (sidesText (sidesTell s 0 args depth budget (frameSize * maxDepth) 8192 (frameSize * maxDepth)))
+
+-- Whether a part was read.
+abbrev pub readVerdict : Scan → Verdict
+readVerdict (Past next) = accepted
+readVerdict (Stopped r) = refused (r .number) (r .place)
+
+-- "Its file limit is 2,048 (15 at 2048)": the head of the file is read by that limit first, then come the file's own checks.
+unfoldable pub fileVerdict : List ℕ → Verdict
+fileVerdict s = orElse (readVerdict (pastOf (head spf 2048 s 0))) (checkOf s)
+
 unfoldable pub fileText : List ℕ → List ℤ → ℕ → ℕ → List ℕ
-fileText s args depth budget =
-    cond (leb (length s) 2048)
-    (translatedText (answerOf s 8192) (sidesTell s args depth budget 12288 8192 12288))
-    (refusedText 15 2048)
+fileText s args depth budget = textBy (fileVerdict s) (loadedText s args depth budget)
 
 -- "Input ending inside the first four fields prints `no header`."
 unfoldable pub textOf : List ℕ → List ℕ

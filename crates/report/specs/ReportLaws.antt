@@ -10,22 +10,25 @@ use lib.ListN.{length, getD, take, drop, set, length-set, length-drop}
 use lib.Seq.{take-all, take-length, take-suc-set, getD-take, length-take-le}
 use borrow.Author.Tests.{le-leb, lt-leb, leb-true, leb-false}
 use Rattle.parsing.specs.Bytes.{Bytes}
+use Rattle.parsing.specs.Fields.{head}
+use Rattle.parsing.specs.FieldLaws.{head-long}
+use Rattle.parsing.specs.declared.Scan.{Scan}
+use Rattle.parsing.specs.declared.Scan.the-variants.{Past, Stopped}
+use Rattle.parsing.specs.Parser.{Verdict, verdictOf, pastOf}
 use Rattle.parsing.specs.declared.Refusal.{Refusal}
 use Rattle.parsing.specs.declared.Checked.{Checked}
 use Rattle.parsing.specs.declared.Checked.the-variants.{Accepted, Refused}
-use Rattle.semantics.specs.Run.{Stop}
-use Rattle.text.specs.declared.Stopped.{Stopped}
 use Rattle.memory.specs.LayLaws.{length-lay}
 use Rattle.decimal.specs.WroteText.{WroteText}
-use Rattle.text.specs.Text.{bothText, refusedText, noHeaderText, stoppedAs}
-use Rattle.translator.specs.declared.Translated.{Translated}
-use Rattle.translator.specs.declared.Translated.the-variants as Translator
-use Rattle.translator.specs.Translated.{Outcome, written, turnedDown, outcomeOf, answerOf}
-use Rattle.bench.specs.Published as Bench
-use Rattle.controller.specs.Published as Controller
+use Rattle.text.specs.Text.{bothText, refusedText, noHeaderText}
+use Rattle.runs.specs.Stopped.{stoppedAs}
+use Rattle.runs.specs.Tells.{Tells, tellsBy}
+use Rattle.procedure_layout.specs.Layout.{spf}
+use Rattle.procedure_file.specs.Check.{checkOf}
+use Rattle.translator.specs.Translated.{translationOf, roomVerdict}
 use Rattle.agreement.specs.declared.Sides.{Sides}
-use Rattle.agreement.specs.Sides.{Tells, refuses, tells, saidOf, sidesTold, sidesTell}
-use Rattle.report.specs.Report.{pairOf, wordOf, countOf, argumentAt, argumentsOf, depthOf, budgetOf, headerOf, sidesText, translatedText, fileText, textOf}
+use Rattle.agreement.specs.Sides.{Told, saidBy, sidesTold, sidesTell}
+use Rattle.report.specs.Report.{pairOf, wordOf, countOf, argumentAt, argumentsOf, depthOf, budgetOf, headerOf, sidesText, textBy, loadedText, fileVerdict, fileText, textOf}
 
 -- ── Arguments ───────────────────────────────────────────────────────────────────────────────────
 
@@ -72,35 +75,47 @@ wrote-within {at} {r} {w} {d} {d′} W =
 
 pub told-refused : (a : Sides) {r : Refusal} → a .verdict ≡ Refused r → refusedText (r .number) (r .place) ≡ sidesText (sidesTold a)
 unfolding sidesText
-told-refused a {r} e = ap (λ (v : Checked). sidesText (saidOf v a)) (sym e)
+told-refused a {r} e = ap (λ (v : Checked). sidesText (tellsBy (verdictOf v) (saidBy a))) (sym e)
 
-pub told-both : (a : Sides) {b c : Stop (Unit {0})} → a .verdict ≡ Accepted → b ≡ Bench.stoppedAs (a .bench .stopped) → c ≡ Controller.stoppedAs (a .controller .stopped)
-    → bothText (a .target) b (a .bench .steps) c (a .controller .steps) ≡ sidesText (sidesTold a)
+pub told-both : (a : Sides) → a .verdict ≡ Accepted
+    → bothText (a .target) (stoppedAs (a .bench .stopped)) (a .bench .steps) (stoppedAs (a .controller .stopped)) (a .controller .steps) ≡ sidesText (sidesTold a)
 unfolding sidesText
-told-both a {b} {c} e eb ec =
-    ap (λ (y : Stop (Unit {0})). bothText (a .target) y (a .bench .steps) c (a .controller .steps)) eb
-    ∙ (ap (λ (y : Stop (Unit {0})). bothText (a .target) (Bench.stoppedAs (a .bench .stopped)) (a .bench .steps) y (a .controller .steps)) ec
-    ∙ ap (λ (v : Checked). sidesText (saidOf v a)) (sym e))
+told-both a e = ap (λ (v : Checked). sidesText (tellsBy (verdictOf v) (saidBy a))) (sym e)
 
 -- ── A file ──────────────────────────────────────────────────────────────────────────────────────
 
+-- By what a check answered.
+pub checked-text : {c : Checked} {v : Verdict} {r : Refusal} (text : List ℕ) → verdictOf c ≡ v → c ≡ Refused r → refusedText (r .number) (r .place) ≡ textBy v text
+checked-text text e q = ap (λ (v : Verdict). textBy v text) (ap verdictOf (sym q) ∙ e)
+
+pub accepted-text : {c : Checked} {v : Verdict} (text : List ℕ) → verdictOf c ≡ v → c ≡ Accepted → text ≡ textBy v text
+accepted-text text e q = ap (λ (v : Verdict). textBy v text) (ap verdictOf (sym q) ∙ e)
+
 module _ (s : List ℕ) (args : List ℤ) (depth budget : ℕ) where
-  pub file-15 : 2048 < length s → refusedText 15 2048 ≡ fileText s args depth budget
-  unfolding fileText
-  file-15 h = rw (lt-leb (length s) 2048 h) refl
+  -- The room for the translation.
+  module _ {n : ℕ} (is : n ≡ length (translationOf s)) {c : Checked} (e : verdictOf c ≡ roomVerdict n 8192) where
+    pub room-refused : {r : Refusal} → c ≡ Refused r → refusedText (r .number) (r .place) ≡ loadedText s args depth budget
+    unfolding loadedText
+    room-refused q = checked-text _ (e ∙ ap (λ (k : ℕ). roomVerdict k 8192) is) q
 
-  module _ (h : length s ≤ 2048) (x : Translated) (o : outcomeOf x ≡ answerOf s 8192) where
-    by-outcome : {y : Outcome} → outcomeOf x ≡ y → translatedText y (sidesTell s args depth budget 12288 8192 12288) ≡ fileText s args depth budget
-    unfolding fileText
-    by-outcome {y} e = rw (le-leb (length s) 2048 h) (ap (λ (z : Outcome). translatedText z (sidesTell s args depth budget 12288 8192 12288)) (sym e ∙ o))
+    pub loaded-sides : c ≡ Accepted → {t : Tells Told} (f r k : ℕ) → t ≡ sidesTell s 0 args depth budget f r k → f ≡ 12288 → r ≡ 8192 → k ≡ 12288 → sidesText t ≡ loadedText s args depth budget
+    unfolding loadedText
+    loaded-sides q f r k g ef er ek = ap sidesText (g ∙ cc (ef, er, ek)) ∙ accepted-text _ (e ∙ ap (λ (k : ℕ). roomVerdict k 8192) is) q
 
-    pub file-refused : {r : Refusal} → x ≡ Translator.Refused r → refusedText (r .number) (r .place) ≡ fileText s args depth budget
-    unfolding translatedText
-    file-refused q = by-outcome (ap outcomeOf q)
+  -- The head by the limit of `both`, then the file's own checks.
+  module _ {x : Scan} (h : x ≡ pastOf (head spf 2048 s 0)) where
+    pub head-refused : {r : Refusal} → x ≡ Stopped r → refusedText (r .number) (r .place) ≡ fileText s args depth budget
+    unfolding fileText fileVerdict
+    head-refused q = rw (sym h ∙ q) refl
 
-    pub file-sides : {n : ℕ} → x ≡ Translator.Written n → {t : Tells} (f r k : ℕ) → t ≡ sidesTell s args depth budget f r k → f ≡ 12288 → r ≡ 8192 → k ≡ 12288 → sidesText t ≡ fileText s args depth budget
-    unfolding translatedText
-    file-sides q f r k e ef er ek = ap sidesText (e ∙ cc (ef, er, ek)) ∙ by-outcome (ap outcomeOf q)
+    module _ {next : ℕ} (q : x ≡ Past next) {c : Checked} (e : verdictOf c ≡ checkOf s) where
+      pub file-refused : {r : Refusal} → c ≡ Refused r → refusedText (r .number) (r .place) ≡ fileText s args depth budget
+      unfolding fileText fileVerdict
+      file-refused k = rw (sym h ∙ q) (checked-text _ e k)
+
+      pub file-loaded : c ≡ Accepted → loadedText s args depth budget ≡ fileText s args depth budget
+      unfolding fileText fileVerdict
+      file-loaded k = rw (sym h ∙ q) (accepted-text _ e k)
 
 -- ── An input ────────────────────────────────────────────────────────────────────────────────────
 
@@ -131,7 +146,7 @@ unfolding textOf
 long-input s h =
     rw (le-leb (headerOf s) (length s) (omega arith))
     (let l : length (drop (headerOf s) s) ≡ length s - headerOf s = length-drop (headerOf s) s in
-    file-15 (drop (headerOf s) s) (argumentsOf s (countOf s)) (depthOf s) (budgetOf s) (omega arith))
+    head-refused (drop (headerOf s) s) (argumentsOf s (countOf s)) (depthOf s) (budgetOf s) refl (sym (head-long spf 2048 (drop (headerOf s) s) (omega arith))))
 
 -- The first 4,096 bytes of an input make its text.
 pub whole-input : (s : List ℕ) → Bytes s → textOf (take 4096 s) ≡ textOf s

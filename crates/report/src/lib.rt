@@ -1,25 +1,28 @@
 // What program `both` prints for an input.
 use agreement::Sides;
-use agreement::side_by_side;
+use agreement::sides_loaded;
 use casts::pair;
 use casts::word;
+use memory::FRAME_SIZE;
+use memory::MAX_DEPTH;
 use parsing::Checked;
 use parsing::Refusal;
-use text::Stopped;
+use parsing::Scan;
+use parsing::head_end;
+use procedure_file::check::load;
 use text::write_both;
 use text::write_no_header;
 use text::write_refused;
-use translator::Translated;
-use translator::translate;
+use translator::room_checked;
+use translator::translation_size;
 ghost use mathlib.Core.Path.{_≡_};
 ghost use Prim.Native.Nat.{_+_, _*_, _≤_, _<_};
 ghost use lib.ListN.{length, take};
-ghost use Rattle.text.specs.Text.{stoppedAs, refusedText};
+ghost use Rattle.text.specs.Text.{refusedText};
 ghost use Rattle.decimal.specs.WroteText.{WroteText};
-ghost use Rattle.bench.specs.Published as Bench;
-ghost use Rattle.controller.specs.Published as Controller;
+ghost use Rattle.procedure_file.specs.Loaded.{Loaded};
 ghost use Rattle.agreement.specs.Sides.{sidesTold};
-ghost use Rattle.report.specs.Report.{argumentAt, argumentsOf, sidesText, fileText, textOf};
+ghost use Rattle.report.specs.Report.{argumentAt, argumentsOf, sidesText, loadedText, fileText, textOf};
 
 // Argument i of the input.
 fn argument(input: &[u8], i: usize) -> i32
@@ -42,28 +45,6 @@ fn fill(input: &[u8], n: usize, arguments: &mut [i32])
     }
 }
 
-fn bench_stopped(s: bench::machine::Stopped) -> Stopped
-    ensures { λ r. ⌜ stoppedAs r ≡ Bench.stoppedAs s ⌝ }
-{
-    match s {
-        bench::machine::Stopped::Value(z) => Stopped::Value(z),
-        bench::machine::Stopped::Uncaught => Stopped::Uncaught,
-        bench::machine::Stopped::Spent => Stopped::Spent,
-        bench::machine::Stopped::Deep => Stopped::Deep,
-    }
-}
-
-fn controller_stopped(s: controller::machine::Stopped) -> Stopped
-    ensures { λ r. ⌜ stoppedAs r ≡ Controller.stoppedAs s ⌝ }
-{
-    match s {
-        controller::machine::Stopped::Value(z) => Stopped::Value(z),
-        controller::machine::Stopped::Uncaught => Stopped::Uncaught,
-        controller::machine::Stopped::Spent => Stopped::Spent,
-        controller::machine::Stopped::Deep => Stopped::Deep,
-    }
-}
-
 // "A refusal prints only `refused`, number, `at`, place."
 fn write_refusal(out: &mut [u8], r: Refusal) -> usize
     requires { ⌜ 256 ≤ length (now out) ⌝ }
@@ -83,10 +64,8 @@ fn write_sides(out: &mut [u8], a: Sides) -> usize
         Checked::Accepted => {
             let b = a.bench;
             let c = a.controller;
-            let bstopped = b.stopped;
-            let cstopped = c.stopped;
-            let bench_stop = bench_stopped(bstopped);
-            let controller_stop = controller_stopped(cstopped);
+            let bench_stop = b.stopped;
+            let controller_stop = c.stopped;
             write_both(
                 out,
                 a.target as u64,
@@ -99,25 +78,33 @@ fn write_sides(out: &mut [u8], a: Sides) -> usize
     }
 }
 
-// A file: at most 2,048 bytes, translated into 8,192, and run with 48 words lent for each of 256 frames.
-fn write_file(out: &mut [u8], file: &[u8], arguments: &[i32], depth: usize, budget: u32) -> usize
+// A loaded file: translated into 8,192 bytes, and run with 48 words lent for each of 256 frames.
+fn write_loaded(
+    out: &mut [u8],
+    file: &[u8],
+    starts: &[u16; 2048],
+    arguments: &[i32],
+    depth: usize,
+    budget: u32,
+) -> usize
+    requires { ⌜ Loaded (now file) (now starts) ⌝ }
     requires { ⌜ 256 ≤ length (now out) ⌝ }
-    ensures { λ r. ⌜ WroteText 0 (fileText (now (file .entry)) (now (arguments .entry)) depth budget) (now (out .entry)) r (now (out .exit)) ⌝ }
+    ensures { λ r. ⌜ WroteText 0 (loadedText (now (file .entry)) (now (arguments .entry)) depth budget) (now (out .entry)) r (now (out .exit)) ⌝ }
 {
-    if 2048 < file.len() {
-        return write_refused(out, 15, 2048);
-    }
-    let mut room = [0u8; 8192];
-    match translate(file, &mut room) {
-        Translated::Refused(r) => {
+    match room_checked(translation_size(file, starts), 8192) {
+        Checked::Refused(r) => {
             return write_refusal(out, r);
         }
-        Translated::Written(_) => {}
+        Checked::Accepted => {}
     }
-    let mut frames = [0i32; 12288];
-    let mut records = [0i32; 12288];
-    let a = side_by_side(
+    let mut room = [0u8; 8192];
+    let mut frames = [0i32; FRAME_SIZE * MAX_DEPTH];
+    let mut records = [0i32; FRAME_SIZE * MAX_DEPTH];
+    let a = sides_loaded(
         file,
+        starts,
+        0,
+        0,
         arguments,
         depth,
         budget,
@@ -126,6 +113,24 @@ fn write_file(out: &mut [u8], file: &[u8], arguments: &[i32], depth: usize, budg
         &mut records,
     );
     write_sides(out, a)
+}
+
+// A file: at most 2,048 bytes, and checked once.
+fn write_file(out: &mut [u8], file: &[u8], arguments: &[i32], depth: usize, budget: u32) -> usize
+    requires { ⌜ 256 ≤ length (now out) ⌝ }
+    ensures { λ r. ⌜ WroteText 0 (fileText (now (file .entry)) (now (arguments .entry)) depth budget) (now (out .entry)) r (now (out .exit)) ⌝ }
+{
+    match head_end(file, b"SPF", 2048) {
+        Scan::Stopped(r) => {
+            return write_refusal(out, r);
+        }
+        Scan::Past(_) => {}
+    }
+    let mut starts = [0u16; 2048];
+    match load(file, &mut starts) {
+        Checked::Refused(r) => write_refusal(out, r),
+        Checked::Accepted => write_loaded(out, file, &starts, arguments, depth, budget),
+    }
 }
 
 // The text of `both` for an input, written to the front of `out`; the answer is its length.

@@ -4,16 +4,16 @@ use mathlib.Core.List.{[], _∷_}
 use lib.IntN.{pos, negsuc}
 use Rattle.semantics.specs.Run.{value, uncaught, ended, spent, deep}
 use Rattle.decimal.specs.Decimal.{digits, decimal, signed, numbered}
-use Rattle.text.specs.Text.{stopText, machineLine, targetLine, bothText, refusedText, benchWord}
+use Rattle.text.specs.Text.{endText, stopText, machineLine, targetLine, bothText, refusedText, benchWord}
 
 -- `target 106`, `bench value 7 steps 6`, `controller value 7 steps 11`
 pub t-argument-0 : bothText 106 (ended (value (pos 7))) 6 (ended (value (pos 7))) 11 ≡ 116 ∷ 97 ∷ 114 ∷ 103 ∷ 101 ∷ 116 ∷ 32 ∷ 49 ∷ 48 ∷ 54 ∷ 10 ∷ 98 ∷ 101 ∷ 110 ∷ 99 ∷ 104 ∷ 32 ∷ 118 ∷ 97 ∷ 108 ∷ 117 ∷ 101 ∷ 32 ∷ 55 ∷ 32 ∷ 115 ∷ 116 ∷ 101 ∷ 112 ∷ 115 ∷ 32 ∷ 54 ∷ 10 ∷ 99 ∷ 111 ∷ 110 ∷ 116 ∷ 114 ∷ 111 ∷ 108 ∷ 108 ∷ 101 ∷ 114 ∷ 32 ∷ 118 ∷ 97 ∷ 108 ∷ 117 ∷ 101 ∷ 32 ∷ 55 ∷ 32 ∷ 115 ∷ 116 ∷ 101 ∷ 112 ∷ 115 ∷ 32 ∷ 49 ∷ 49 ∷ 10 ∷ []
-unfolding digits decimal signed numbered stopText machineLine targetLine bothText
+unfolding digits decimal signed numbered endText stopText machineLine targetLine bothText
 t-argument-0 = refl
 
 -- `bench uncaught steps 1`
 pub line-uncaught : machineLine benchWord (ended uncaught) 1 ≡ 98 ∷ 101 ∷ 110 ∷ 99 ∷ 104 ∷ 32 ∷ 117 ∷ 110 ∷ 99 ∷ 97 ∷ 117 ∷ 103 ∷ 104 ∷ 116 ∷ 32 ∷ 115 ∷ 116 ∷ 101 ∷ 112 ∷ 115 ∷ 32 ∷ 49 ∷ 10 ∷ []
-unfolding digits decimal numbered stopText machineLine
+unfolding digits decimal numbered endText stopText machineLine
 line-uncaught = refl
 
 -- `bench spent steps 0`

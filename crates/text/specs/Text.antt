@@ -1,10 +1,8 @@
 -- The lines that program `both` prints (document 01, 'The test procedure and its neighbours'), as bytes.
 use Prim.Native.Nat.{ℕ}
 use mathlib.Core.List.{List, [], _∷_, _++_}
-use Rattle.semantics.specs.Run.{value, uncaught, Stop, ended, spent, deep, broken}
+use Rattle.semantics.specs.Run.{End, value, uncaught, Stop, ended, spent, deep, broken}
 use Rattle.decimal.specs.Decimal.{signed, numbered}
-use Rattle.text.specs.declared.Stopped.{Stopped}
-use Rattle.text.specs.declared.Stopped.the-variants.{Value, Uncaught, Spent, Deep}
 
 -- `value `
 abbrev pub valueWord : List ℕ
@@ -55,9 +53,12 @@ abbrev pub newline : List ℕ
 newline = 10 ∷ []
 
 -- How a run stopped: `value` and its number, "Other ends print `uncaught`, `spent` or `deep`". A run of a checked file is never broken.
+unfoldable pub endText : End → List ℕ
+endText (value z) = valueWord ++ signed z
+endText uncaught = uncaughtWord
+
 unfoldable pub stopText : Stop (Unit {0}) → List ℕ
-stopText (ended (value z)) = valueWord ++ signed z
-stopText (ended uncaught) = uncaughtWord
+stopText (ended e) = endText e
 stopText (spent u) = spentWord
 stopText (deep u) = deepWord
 stopText (broken u) = []
@@ -81,10 +82,3 @@ refusedText number place = numbered refusedWord number ++ numbered atWord place 
 -- "Input ending inside the first four fields prints `no header`."
 abbrev pub noHeaderText : List ℕ
 noHeaderText = 110 ∷ 111 ∷ 32 ∷ 104 ∷ 101 ∷ 97 ∷ 100 ∷ 101 ∷ 114 ∷ 10 ∷ []
-
--- How a run stopped, as the code tells it.
-unfoldable pub stoppedAs : Stopped → Stop (Unit {0})
-stoppedAs (Value z) = ended (value z)
-stoppedAs Uncaught = ended uncaught
-stoppedAs Spent = spent tt
-stoppedAs Deep = deep tt

@@ -5,20 +5,27 @@ use mathlib.Core.Path.{_≡_, sym, ap, _∙_}
 use mathlib.Core.List.{List, _++_}
 use lib.IntN.{ℤ}
 use lib.ListN.{length, length-append}
+use Rattle.semantics.specs.Run as Rules
 use Rattle.semantics.specs.Run.{value, uncaught, Stop, ended, spent, deep, broken}
 use Rattle.decimal.specs.DecimalLaws.{length-signed, length-numbered}
-use Rattle.text.specs.declared.Stopped.{Stopped}
-use Rattle.text.specs.declared.Stopped.the-variants.{Value, Uncaught, Spent, Deep}
+use Rattle.runs.specs.declared.End.{End}
+use Rattle.runs.specs.declared.End.the-variants.{Value, Uncaught}
+use Rattle.runs.specs.declared.Stopped.{Stopped}
+use Rattle.runs.specs.Stopped.{endAs, stoppedAs}
 use Rattle.decimal.specs.Decimal.{signed, numbered}
-use Rattle.text.specs.Text.{stopText, machineLine, targetLine, stoppedAs, valueWord, uncaughtWord, spentWord, deepWord, stepsWord, targetWord, space, newline}
+use Rattle.text.specs.Text.{endText, stopText, machineLine, targetLine, valueWord, uncaughtWord, stepsWord, targetWord, space, newline}
 
-pub length-stop : (x : Stop (Unit {0})) → length (stopText x) ≤ 27
-unfolding stopText
-length-stop (ended (value z)) =
+length-end : (e : Rules.End) → length (endText e) ≤ 27
+unfolding endText
+length-end (value z) =
     let h : length (signed z) ≤ 21 = length-signed z in
     let e : length (valueWord ++ signed z) ≡ 6 + length (signed z) = length-append valueWord (signed z) in
     omega arith
-length-stop (ended uncaught) = omega arith
+length-end uncaught = omega arith
+
+pub length-stop : (x : Stop (Unit {0})) → length (stopText x) ≤ 27
+unfolding stopText
+length-stop (ended e) = length-end e
 length-stop (spent u) = omega arith
 length-stop (deep u) = omega arith
 length-stop (broken u) = omega arith
@@ -41,19 +48,14 @@ length-target n =
     let g : length (numbered targetWord n) ≤ 7 + 20 = length-numbered targetWord n in
     omega arith
 
--- How a run stopped, as the code has it.
-pub ended-value : (e : Stopped) (x z : ℤ) → e ≡ Value z → x ≡ z → valueWord ++ signed x ≡ stopText (stoppedAs e)
-unfolding stopText stoppedAs
-ended-value e x z p q = ap (λ (y : ℤ). valueWord ++ signed y) q ∙ ap (λ (y : Stopped). stopText (stoppedAs y)) (sym p)
+-- How a run ended and stopped, as the code has it.
+pub end-value : (e : End) (x z : ℤ) → e ≡ Value z → x ≡ z → valueWord ++ signed x ≡ endText (endAs e)
+unfolding endText
+end-value e x z p q = ap (λ (y : ℤ). valueWord ++ signed y) q ∙ ap (λ (y : End). endText (endAs y)) (sym p)
 
-pub ended-uncaught : (e : Stopped) → e ≡ Uncaught → uncaughtWord ≡ stopText (stoppedAs e)
-unfolding stopText stoppedAs
-ended-uncaught e p = ap (λ (y : Stopped). stopText (stoppedAs y)) (sym p)
+pub end-uncaught : (e : End) → e ≡ Uncaught → uncaughtWord ≡ endText (endAs e)
+unfolding endText
+end-uncaught e p = ap (λ (y : End). endText (endAs y)) (sym p)
 
-pub ended-spent : (e : Stopped) → e ≡ Spent → spentWord ≡ stopText (stoppedAs e)
-unfolding stopText stoppedAs
-ended-spent e p = ap (λ (y : Stopped). stopText (stoppedAs y)) (sym p)
-
-pub ended-deep : (e : Stopped) → e ≡ Deep → deepWord ≡ stopText (stoppedAs e)
-unfolding stopText stoppedAs
-ended-deep e p = ap (λ (y : Stopped). stopText (stoppedAs y)) (sym p)
+pub stopped-as : (s t : Stopped) → s ≡ t → stopText (stoppedAs t) ≡ stopText (stoppedAs s)
+stopped-as s t p = ap (λ (y : Stopped). stopText (stoppedAs y)) (sym p)

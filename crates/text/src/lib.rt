@@ -2,30 +2,35 @@
 use decimal::put_bytes;
 use decimal::put_numbered;
 use decimal::put_signed;
+use runs::End;
+use runs::Stopped;
 ghost use Prim.Native.Nat.{_+_, _≤_};
 ghost use lib.ListN.{length};
 ghost use Rattle.decimal.specs.WroteText.{WroteText};
-ghost use Rattle.text.specs.Text.{stopText, machineLine, targetLine, bothText, refusedText, noHeaderText, stoppedAs};
+ghost use Rattle.runs.specs.Stopped.{endAs, stoppedAs};
+ghost use Rattle.text.specs.Text.{endText, stopText, machineLine, targetLine, bothText, refusedText, noHeaderText};
 
-// How a run stopped.
-pub enum Stopped {
-    Value(i32),
-    Uncaught,
-    Spent,
-    Deep,
-}
-
-// How a run stopped.
-fn put_stopped(out: &mut [u8], at: usize, e: Stopped) -> usize
+// How a run ended.
+fn put_end(out: &mut [u8], at: usize, e: End) -> usize
     requires { ⌜ at + 27 ≤ length (now out) ⌝ }
-    ensures { λ r. ⌜ WroteText at (stopText (stoppedAs e)) (now (out .entry)) r (now (out .exit)) ⌝ }
+    ensures { λ r. ⌜ WroteText at (endText (endAs e)) (now (out .entry)) r (now (out .exit)) ⌝ }
 {
     match e {
-        Stopped::Value(v) => {
+        End::Value(v) => {
             let next = put_bytes(out, at, b"value ");
             put_signed(out, next, v)
         }
-        Stopped::Uncaught => put_bytes(out, at, b"uncaught"),
+        End::Uncaught => put_bytes(out, at, b"uncaught"),
+    }
+}
+
+// How a run stopped.
+fn put_stopped(out: &mut [u8], at: usize, s: Stopped) -> usize
+    requires { ⌜ at + 27 ≤ length (now out) ⌝ }
+    ensures { λ r. ⌜ WroteText at (stopText (stoppedAs s)) (now (out .entry)) r (now (out .exit)) ⌝ }
+{
+    match s {
+        Stopped::Ended(e) => put_end(out, at, e),
         Stopped::Spent => put_bytes(out, at, b"spent"),
         Stopped::Deep => put_bytes(out, at, b"deep"),
     }

@@ -1,18 +1,8 @@
 -- `report::write_sides` meets its contract.
-use mathlib.Core.Path.{_≡_, sym, subst}
-use mathlib.Core.List.{List}
-use Prim.Native.Nat.{ℕ}
-use Rattle.decimal.specs.WroteText.{WroteText}
 use Rattle.report.specs.ReportLaws.{told-refused, told-both, wrote-as}
 use borrow.Author.Needs.{needs}
 use Rattle.report.proofs.write_sides.Statement.{statement}
 use Rattle.report.proofs.write_sides.Tie as tie
-use Rattle.report.proofs.write_sides.Reads as reads
-use Rattle.report.proofs.write_sides.Lts as lts
-use Rattle.report.proofs.bench_stopped.Reads as bench-stopped-reads
-use Rattle.report.proofs.controller_stopped.Reads as controller-stopped-reads
-use Rattle.report.proofs.write_refusal.Reads as write-refusal-reads
-use Rattle.text.proofs.write_both.Reads as write-both-reads
 
 enum-known-verdict : tie.Need-enum-known-verdict
 enum-known-verdict c = search needs
@@ -22,12 +12,6 @@ write-refusal-requires c κs = search needs
 
 enum-told : tie.Need-enum-told
 enum-told c = search needs
-
-bench-stopped-requires : tie.Need-bench-stopped-requires
-bench-stopped-requires c κs = search needs
-
-controller-stopped-requires : tie.Need-controller-stopped-requires
-controller-stopped-requires c κs = search needs
 
 write-both-requires : tie.Need-write-both-requires
 write-both-requires c κs = search needs
@@ -46,12 +30,9 @@ same-length-2 c = search needs
 
 returns-2 : tie.Need-returns-2
 returns-2 c =
-    let at-controller-stopped = c .before .before .before .before in
-    let at-bench-stopped = at-controller-stopped .before in
-    let at-enum-told = at-bench-stopped .before .before .before in
+    let at-enum-told = c .before .before .before .before .before .before in
     let entry = at-enum-told .before .before .before in
-    wrote-as (told-both (entry .args .a) (at-enum-told .enum-told .given .1) (at-bench-stopped .bench-stopped .ensures) (at-controller-stopped .controller-stopped .ensures))
-    (c .before .before .write-both .ensures)
+    wrote-as (told-both (entry .args .a) (at-enum-told .enum-told .given .1)) (c .before .before .write-both .ensures)
 
 pub write-sides-spec : {M : Type 1} → statement M
 write-sides-spec =
@@ -60,8 +41,6 @@ write-sides-spec =
     enum-known-verdict
     write-refusal-requires
     enum-told
-    bench-stopped-requires
-    controller-stopped-requires
     write-both-requires
     same-length
     returns

@@ -1,15 +1,19 @@
--- `text::put_stopped` meets its contract: one law for each end.
-use mir.Facts.{toZ-ofZ}
-use mir.Syntax.{w32}
-use mir.Val.{SFits}
-use Rattle.decimal.specs.DecimalLaws.{wrote-as, wrote-then}
-use Rattle.text.specs.TextLaws.{ended-value, ended-uncaught, ended-spent, ended-deep}
+-- `text::put_stopped` meets its contract.
+use Rattle.decimal.specs.DecimalLaws.{wrote-as}
+use Rattle.text.specs.Text.{stopText}
+use Rattle.text.specs.TextLaws.{stopped-as}
 use borrow.Author.Needs.{needs}
 use Rattle.text.proofs.put_stopped.Statement.{statement}
 use Rattle.text.proofs.put_stopped.Tie as tie
 
-enum-known-e : tie.Need-enum-known-e
-enum-known-e c = search needs
+enum-known-s : tie.Need-enum-known-s
+enum-known-s c = search needs
+
+put-end-requires : tie.Need-put-end-requires
+put-end-requires c κs = search needs
+
+enum-told : tie.Need-enum-told
+enum-told c = search needs
 
 slice-aggregate-put-bytes : tie.Need-slice-aggregate-put-bytes
 slice-aggregate-put-bytes c = search needs
@@ -17,11 +21,8 @@ slice-aggregate-put-bytes c = search needs
 put-bytes-requires : tie.Need-put-bytes-requires
 put-bytes-requires c κs = search needs
 
-put-signed-requires : tie.Need-put-signed-requires
-put-signed-requires c κs = search needs
-
-enum-told : tie.Need-enum-told
-enum-told c = search needs
+enum-told-2 : tie.Need-enum-told-2
+enum-told-2 c = search needs
 
 slice-aggregate-put-bytes-2 : tie.Need-slice-aggregate-put-bytes-2
 slice-aggregate-put-bytes-2 c = search needs
@@ -29,84 +30,48 @@ slice-aggregate-put-bytes-2 c = search needs
 put-bytes-requires-2 : tie.Need-put-bytes-requires-2
 put-bytes-requires-2 c κs = search needs
 
-enum-told-2 : tie.Need-enum-told-2
-enum-told-2 c = search needs
-
-slice-aggregate-put-bytes-3 : tie.Need-slice-aggregate-put-bytes-3
-slice-aggregate-put-bytes-3 c = search needs
-
-put-bytes-requires-3 : tie.Need-put-bytes-requires-3
-put-bytes-requires-3 c κs = search needs
-
-enum-told-3 : tie.Need-enum-told-3
-enum-told-3 c = search needs
-
-slice-aggregate-put-bytes-4 : tie.Need-slice-aggregate-put-bytes-4
-slice-aggregate-put-bytes-4 c = search needs
-
-put-bytes-requires-4 : tie.Need-put-bytes-requires-4
-put-bytes-requires-4 c κs = search needs
-
 same-length : tie.Need-same-length
 same-length c = search needs
 
 returns : tie.Need-returns
+unfolding stopText
 returns c =
-    let at-put-bytes = c .before .before .before .before .before .before in
-    let at-e = at-put-bytes .before .before .before .before in
-    let entry = at-e .before .before .before in
-    let f : SFits w32 (at-e .e .given .0 .0) = search needs in
-    wrote-as (ended-value (entry .args .e) _ _ (at-e .e .given .1) (toZ-ofZ f)) (wrote-then (at-put-bytes .put-bytes .ensures) (c .before .before .put-signed .ensures))
+    let at-s = c .before .before .before .before .before in
+    wrote-as (stopped-as _ _ (at-s .s .given .1)) (c .before .before .put-end .ensures)
 
 same-length-2 : tie.Need-same-length-2
 same-length-2 c = search needs
 
 returns-2 : tie.Need-returns-2
+unfolding stopText
 returns-2 c =
     let at-enum-told = c .before .before .before .before .before in
-    let entry = at-enum-told .before .before .before in
-    wrote-as (ended-uncaught (entry .args .e) (at-enum-told .enum-told .given .1)) (c .before .before .put-bytes2 .ensures)
+    wrote-as (stopped-as _ _ (at-enum-told .enum-told .given .1)) (c .before .before .put-bytes .ensures)
 
 same-length-3 : tie.Need-same-length-3
 same-length-3 c = search needs
 
 returns-3 : tie.Need-returns-3
+unfolding stopText
 returns-3 c =
     let at-enum-told2 = c .before .before .before .before .before in
-    let entry = at-enum-told2 .before .before .before in
-    wrote-as (ended-spent (entry .args .e) (at-enum-told2 .enum-told2 .given .1)) (c .before .before .put-bytes3 .ensures)
-
-same-length-4 : tie.Need-same-length-4
-same-length-4 c = search needs
-
-returns-4 : tie.Need-returns-4
-returns-4 c =
-    let at-enum-told3 = c .before .before .before .before .before in
-    let entry = at-enum-told3 .before .before .before in
-    wrote-as (ended-deep (entry .args .e) (at-enum-told3 .enum-told3 .given .1)) (c .before .before .put-bytes4 .ensures)
+    wrote-as (stopped-as _ _ (at-enum-told2 .enum-told2 .given .1)) (c .before .before .put-bytes2 .ensures)
 
 pub put-stopped-spec : {M : Type 1} → statement M
 put-stopped-spec =
     tie.close
     (tie.spec
-    enum-known-e
+    enum-known-s
+    put-end-requires
+    enum-told
     slice-aggregate-put-bytes
     put-bytes-requires
-    put-signed-requires
-    enum-told
+    enum-told-2
     slice-aggregate-put-bytes-2
     put-bytes-requires-2
-    enum-told-2
-    slice-aggregate-put-bytes-3
-    put-bytes-requires-3
-    enum-told-3
-    slice-aggregate-put-bytes-4
-    put-bytes-requires-4
     same-length
     returns
     same-length-2
     returns-2
     same-length-3
-    returns-3
-    same-length-4
-    returns-4)
+    returns-3)
