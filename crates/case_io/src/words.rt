@@ -7,6 +7,7 @@ use parsing::Refusal;
 use runs::End;
 use runs::Stopped;
 use runs::in_use;
+ghost use Rattle.runs.specs.Stopped.{stoppedAs, inUse};
 ghost use Prim.Native.Nat.{_+_, _-_, _*_, min};
 ghost use mathlib.Core.Path.{_≡_};
 ghost use lib.ListN.{length};
@@ -60,7 +61,10 @@ fn print_end(e: End) {
 }
 
 // How a run stopped; the answer is how many of n frames are then in use.
-pub fn print_stop(stopped: Stopped, n: usize) -> usize {
+pub fn print_stop(stopped: Stopped, n: usize) -> usize
+    ensures { λ r. ⌜ r ≡ inUse (stoppedAs stopped) n ⌝ }
+{
+    let used = in_use(stopped, n);
     match stopped {
         Stopped::Ended(e) => {
             print_end(e);
@@ -72,7 +76,7 @@ pub fn print_stop(stopped: Stopped, n: usize) -> usize {
             say(b"deep");
         }
     }
-    in_use(stopped, n)
+    used
 }
 
 // The first k words of each of the oldest frames, `frames` of them.
