@@ -4,15 +4,15 @@
 // and the input of `both`: argument count, arguments, depth, budget, file.
 use bench::machine::Answer;
 use bench::machine::run;
-use case_io::input::argument_bytes;
-use case_io::input::arguments;
-use case_io::input::byte_at;
+use case_fields::record::argument_bytes;
+use case_fields::record::arguments;
+use case_fields::record::byte_at;
+use case_fields::words::UNTOUCHED;
+use case_fields::words::lent;
 use case_io::input::read_part;
 use case_io::input::read_whole;
 use case_io::print::numbered;
 use case_io::print::say;
-use case_io::words::UNTOUCHED;
-use case_io::words::lent;
 use case_io::words::print_frames;
 use case_io::words::print_refused;
 use case_io::words::print_rest;

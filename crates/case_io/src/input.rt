@@ -1,9 +1,7 @@
-// Records on standard input: their bytes, and the fields in them, the low byte first.
+// Records on standard input.
 use libc::STDIN_FILENO;
-ghost use Prim.Native.Nat.{_+_, _*_, _≤_, _<_, min};
-ghost use mathlib.Core.Path.{_≡_};
-ghost use lib.ListN.{length, getD};
-ghost use Rattle.case_io.specs.Record.{Front, valueAt, Taken};
+ghost use Prim.Native.Nat.{_≤_};
+ghost use Rattle.case_fields.specs.Record.{Front};
 
 // Fills `part` from standard input; false where the input ends first.
 pub fn read_whole(part: &mut [u8]) -> bool {
@@ -20,59 +18,4 @@ pub fn read_part(part: &mut [u8], n: usize) -> usize
         return 0;
     }
     io::read_full(STDIN_FILENO, &mut part[..n])
-}
-
-// The byte at an offset, 0 past the end.
-pub fn byte_at(bytes: &[u8], at: usize) -> u8
-    ensures { λ r. ⌜ r ≡ getD (now (bytes .entry)) at 0 ⌝ }
-{
-    if at < bytes.len() {
-        return bytes[at];
-    }
-    0
-}
-
-// The less of two numbers.
-pub fn least(a: usize, b: usize) -> usize
-    ensures { λ r. ⌜ r ≡ min a b ⌝ }
-{
-    if a < b { a } else { b }
-}
-
-// How many of the first n bytes of `part` there are.
-pub fn room(part: &[u8], n: usize) -> usize
-    ensures { λ r. ⌜ Front r (now (part .entry)) ⌝ }
-    ensures { λ r. ⌜ r ≡ min n (length (now (part .entry))) ⌝ }
-{
-    least(n, part.len())
-}
-
-// How many bytes so many arguments have.
-pub fn argument_bytes(count: u8) -> usize
-    ensures { λ r. ⌜ r ≡ 4 * count ⌝ }
-{
-    4 * (count as usize)
-}
-
-// The value of four bytes, the i-th four of `bytes`.
-fn value_at(bytes: &[u8], i: usize) -> i32
-    requires { ⌜ 4 * i + 3 < length (now bytes) ⌝ }
-    ensures { λ r. ⌜ r ≡ valueAt (now (bytes .entry)) i ⌝ }
-{
-    let at = 4 * i;
-    parsing::value(bytes[at], bytes[at + 1], bytes[at + 2], bytes[at + 3])
-}
-
-// The arguments of a record, four bytes each, into the front of `args`; the answer is how many: those that are whole and have room.
-pub fn arguments(bytes: &[u8], args: &mut [i32]) -> usize
-    ensures { λ r. ⌜ Front r (now (args .exit)) ⌝ }
-    ensures { λ r. ⌜ Taken (now (bytes .entry)) (now (args .entry)) r (now (args .exit)) ⌝ }
-{
-    let n = least(bytes.len() / 4, args.len());
-    let mut i = 0;
-    while i < n {
-        args[i] = value_at(bytes, i);
-        i += 1;
-    }
-    n
 }

@@ -3,14 +3,14 @@
 // A record of the input is a head of 15 bytes, the arguments (4 bytes each) and a translated file. The head is a number of words to lend
 // less than or beyond 48 a record (one byte, 128 for none), argument count (1 byte), depth (2), budget (8), length of the file (3), the low
 // byte first.
-use case_io::input::argument_bytes;
-use case_io::input::arguments;
+use case_fields::record::argument_bytes;
+use case_fields::record::arguments;
+use case_fields::words::UNTOUCHED;
+use case_fields::words::lent;
 use case_io::input::read_part;
 use case_io::input::read_whole;
 use case_io::print::numbered;
 use case_io::print::say;
-use case_io::words::UNTOUCHED;
-use case_io::words::lent;
 use case_io::words::print_frames;
 use case_io::words::print_refused;
 use case_io::words::print_rest;

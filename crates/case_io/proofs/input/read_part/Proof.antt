@@ -1,5 +1,5 @@
 -- `case_io::read_part` meets its contract.
-use Rattle.case_io.specs.RecordLaws.{read-front}
+use Rattle.case_fields.specs.RecordLaws.{read-front}
 use lib.Seq.{length-take-le}
 use native.Mathlib.Omega.{arith}
 use mathlib.Core.Path.{sym}

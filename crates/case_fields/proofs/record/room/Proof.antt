@@ -1,9 +1,9 @@
--- `case_io::room` meets its contract.
+-- `case_fields::room` meets its contract.
 use native.Mathlib.Omega.{arith}
 use borrow.Author.Needs.{needs}
-use Rattle.case_io.specs.RecordLaws.{front}
-use Rattle.case_io.proofs.input.room.Statement.{statement}
-use Rattle.case_io.proofs.input.room.Tie as tie
+use Rattle.case_fields.specs.RecordLaws.{front}
+use Rattle.case_fields.proofs.record.room.Statement.{statement}
+use Rattle.case_fields.proofs.record.room.Tie as tie
 
 returns : tie.Need-returns
 returns c =

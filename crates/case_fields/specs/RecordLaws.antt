@@ -6,7 +6,7 @@ use mathlib.Core.List.{List, [], _∷_, _++_}
 use lib.IntN.{ℤ}
 use lib.ListN.{length, getD, take, drop, set, length-set}
 use lib.Seq.{take-suc-set, drop-set-lt, drop-drop, length-take-le, length-front}
-use Rattle.case_io.specs.Record.{Front, valueAt, valuesOf, Taken}
+use Rattle.case_fields.specs.Record.{Front, valueAt, valuesOf, Taken}
 
 pub front : {A : Type 0} (n : ℕ) (xs : List A) → n ≤ length xs → Front n xs
 front n xs h = (h, sym (length-take-le n xs h))

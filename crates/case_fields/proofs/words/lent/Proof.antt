@@ -1,10 +1,10 @@
--- `case_io::lent` meets its contract.
+-- `case_fields::lent` meets its contract.
 use lib.ListN.{length}
 use native.Mathlib.Omega.{arith}
-use Rattle.case_io.specs.RecordLaws.{front}
+use Rattle.case_fields.specs.RecordLaws.{front}
 use borrow.Author.Needs.{needs}
-use Rattle.case_io.proofs.words.lent.Statement.{statement}
-use Rattle.case_io.proofs.words.lent.Tie as tie
+use Rattle.case_fields.proofs.words.lent.Statement.{statement}
+use Rattle.case_fields.proofs.words.lent.Tie as tie
 
 returns : tie.Need-returns
 returns c = let w = c .before .args .words .now in (front (length w) w (omega arith), omega arith)

@@ -1,4 +1,4 @@
--- `case_io::all_are` meets its contract.
+-- `case_fields::all_are` meets its contract.
 use Prim.Native.Nat.{_-_}
 use native.Mathlib.Omega.{arith}
 use mathlib.Core.Path.{_≡_, refl, sym, ap, _∙_}
@@ -8,10 +8,10 @@ use mir.Syntax.{w32}
 use mir.Val.{SFits, toZ, ofZ}
 use mir.Facts.{toZ-ofZ}
 use borrow.Author.Needs.{needs}
-use Rattle.case_io.specs.Words.{every}
-use Rattle.case_io.specs.WordLaws.{other-word, same-word, no-word}
-use Rattle.case_io.proofs.words.all_are.Statement.{statement}
-use Rattle.case_io.proofs.words.all_are.Tie as tie
+use Rattle.case_fields.specs.Words.{every}
+use Rattle.case_fields.specs.WordLaws.{other-word, same-word, no-word}
+use Rattle.case_fields.proofs.words.all_are.Statement.{statement}
+use Rattle.case_fields.proofs.words.all_are.Tie as tie
 
 abbrev Inv-loop : tie.InvT-loop
 Inv-loop words x i₀ i = every (toZ w32 x) (drop i words) ≡ every (toZ w32 x) words

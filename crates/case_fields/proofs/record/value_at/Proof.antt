@@ -1,11 +1,11 @@
--- `case_io::value_at` meets its contract.
+-- `case_fields::value_at` meets its contract.
 use mathlib.Core.Path.{_∙_}
 use mir.Facts.{toZ-ofZ}
 use mir.Syntax.{w32}
-use Rattle.case_io.specs.Record.{valueAt}
+use Rattle.case_fields.specs.Record.{valueAt}
 use borrow.Author.Needs.{needs}
-use Rattle.case_io.proofs.input.value_at.Statement.{statement}
-use Rattle.case_io.proofs.input.value_at.Tie as tie
+use Rattle.case_fields.proofs.record.value_at.Statement.{statement}
+use Rattle.case_fields.proofs.record.value_at.Tie as tie
 
 returns : tie.Need-returns
 unfolding valueAt

@@ -8,7 +8,7 @@ use lib.IntN.{ℤ, pos, negsuc}
 use lib.ListN.{length, getD, drop, drop-of-length-le}
 use lib.Seq.{drop-cons}
 use borrow.Author.Tests.{eqb-true, eq-eqb}
-use Rattle.case_io.specs.Words.{every, same}
+use Rattle.case_fields.specs.Words.{every, same}
 
 same-refl : (x : ℤ) → same x x ≡ true
 same-refl (pos a) = eq-eqb a a refl

@@ -1,12 +1,12 @@
--- `case_io::arguments` meets its contract.
+-- `case_fields::arguments` meets its contract.
 use Prim.Native.Nat.{_-_}
 use native.Mathlib.Omega.{arith}
 use mir.Facts.{toZ-ofZ}
 use mir.Syntax.{w32}
 use borrow.Author.Needs.{needs}
-use Rattle.case_io.specs.RecordLaws.{Taking, taking-none, taking-more, taking-all}
-use Rattle.case_io.proofs.input.arguments.Statement.{statement}
-use Rattle.case_io.proofs.input.arguments.Tie as tie
+use Rattle.case_fields.specs.RecordLaws.{Taking, taking-none, taking-more, taking-all}
+use Rattle.case_fields.proofs.record.arguments.Statement.{statement}
+use Rattle.case_fields.proofs.record.arguments.Tie as tie
 
 abbrev Inv-loop : tie.InvT-loop
 Inv-loop bytes args₀ n i₀ args i = Taking bytes args₀ n i args
