@@ -4,7 +4,7 @@ pub mod Refusals
 pub mod Fields
 pub mod Bytes
 -- Laws.
-pub mod FieldLaws
+pub mod ValueLaws
 pub mod ParserLaws
 pub mod VerdictLaws
 pub mod BytesAtLaws

@@ -1,9 +1,9 @@
-// What files of both kinds are read with: refusals, the fields that they share, and the ends of parts.
+// What files of both kinds are read with: refusals, the fields that they share, and the end of the file.
 pub mod refusals;
 
 ghost use mathlib.Core.Path.{_≡_};
 ghost use Rattle.parsing.specs.Parser.{pastOf, orElse, refusedUnless, verdictOf};
-ghost use Rattle.parsing.specs.Fields.{valueOf, counted, count, marked, version, head, ended};
+ghost use Rattle.parsing.specs.Fields.{valueOf, counted, count, ended};
 
 // A refusal is a number and a place.
 pub struct Refusal {
@@ -47,79 +47,6 @@ pub fn refused_unless(holds: bool, number: u8, place: usize) -> Checked
         return Checked::Accepted;
     }
     Checked::Refused(Refusal { number, place })
-}
-
-// The mark at the head of a file: its bytes are judged one by one.
-fn mark_end(file: &[u8], mark: &[u8]) -> Scan
-    ensures { λ r. ⌜ r ≡ pastOf (marked (now (mark .entry)) (now (file .entry)) 0) ⌝ }
-{
-    let mut i = 0;
-    while i < mark.len() {
-        if file.len() <= i {
-            return Scan::Stopped(Refusal {
-                number: refusals::ENDS_EARLY,
-                place: file.len(),
-            });
-        }
-        if file[i] != mark[i] {
-            return Scan::Stopped(Refusal {
-                number: refusals::WRONG_MARK,
-                place: i,
-            });
-        }
-        i += 1;
-    }
-    Scan::Past(i)
-}
-
-// The version, judged once it is whole.
-fn version_end(file: &[u8], at: usize) -> Scan
-    ensures { λ r. ⌜ r ≡ pastOf (version (now (file .entry)) at) ⌝ }
-{
-    let n = file.len();
-    if n <= at {
-        return Scan::Stopped(Refusal {
-            number: refusals::ENDS_EARLY,
-            place: n,
-        });
-    }
-    let past = at + 2;
-    if n < past {
-        return Scan::Stopped(Refusal {
-            number: refusals::ENDS_EARLY,
-            place: n,
-        });
-    }
-    let high = at + 1;
-    if file[at] != 1 {
-        return Scan::Stopped(Refusal {
-            number: refusals::WRONG_VERSION,
-            place: at,
-        });
-    }
-    if file[high] != 0 {
-        return Scan::Stopped(Refusal {
-            number: refusals::WRONG_VERSION,
-            place: at,
-        });
-    }
-    Scan::Past(past)
-}
-
-// The head of a file: its size against the limit, its mark and its version.
-pub fn head_end(file: &[u8], mark: &[u8], limit: usize) -> Scan
-    ensures { λ r. ⌜ r ≡ pastOf (head (now (mark .entry)) limit (now (file .entry)) 0) ⌝ }
-{
-    if limit < file.len() {
-        return Scan::Stopped(Refusal {
-            number: refusals::FILE_TOO_LONG,
-            place: limit,
-        });
-    }
-    match mark_end(file, mark) {
-        Scan::Stopped(r) => Scan::Stopped(r),
-        Scan::Past(next) => version_end(file, next),
-    }
 }
 
 // A count of one byte, in its range.

@@ -145,7 +145,7 @@ fn functions_end(file: &[u8], start: usize, n: usize) -> Scan
 pub fn layout_end(file: &[u8]) -> Scan
     ensures { λ r. ⌜ r ≡ pastOf (program (now (file .entry)) 0) ⌝ }
 {
-    match parsing::head_end(file, b"SPF", FILE_LIMIT) {
+    match file_head::head_end(file, b"SPF", FILE_LIMIT) {
         Scan::Stopped(r) => Scan::Stopped(r),
         Scan::Past(_) => match parsing::count_at(file, 5, 1, MAX_FUNCTIONS) {
             Count::Outside(r) => Scan::Stopped(r),

@@ -11,7 +11,7 @@ use lib.Seq.{take-all, take-length, take-suc-set, getD-take, length-take-le}
 use borrow.Author.Tests.{le-leb, lt-leb, leb-true, leb-false}
 use Rattle.parsing.specs.Bytes.{Bytes}
 use Rattle.parsing.specs.Fields.{head}
-use Rattle.parsing.specs.FieldLaws.{head-long}
+use Rattle.file_head.specs.HeadLaws.{head-long}
 use Rattle.parsing.specs.declared.Scan.{Scan}
 use Rattle.parsing.specs.declared.Scan.the-variants.{Past, Stopped}
 use Rattle.parsing.specs.Parser.{Verdict, verdictOf, pastOf}

@@ -370,7 +370,7 @@ fn outside(place: usize) -> Count
 pub fn code_end(file: &[u8], params: &[u8], names: bool) -> Scan
     ensures { λ r. ⌜ r ≡ pastOf (code names (now (params .entry)) (now (file .entry)) 0) ⌝ }
 {
-    match parsing::head_end(file, b"SPC", FILE_LIMIT) {
+    match file_head::head_end(file, b"SPC", FILE_LIMIT) {
         Scan::Stopped(r) => Scan::Stopped(r),
         Scan::Past(_) => match functions_at(file, 5) {
             Count::Outside(r) => Scan::Stopped(r),

@@ -1,5 +1,5 @@
 use Prim.Native.Nat.{_+_, _*_}
-use Rattle.parsing.specs.FieldLaws.{value-high, value-fits}
+use Rattle.parsing.specs.ValueLaws.{value-high, value-fits}
 use Rattle.parsing.specs.Fields.{valueOf}
 use mir.Facts.{toZ-ofZ}
 use mathlib.Core.Path.{_∙_}

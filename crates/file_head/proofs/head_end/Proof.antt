@@ -1,8 +1,8 @@
-use Rattle.parsing.specs.FieldLaws.{head-long, head-mark, head-version}
+use Rattle.file_head.specs.HeadLaws.{head-long, head-mark, head-version}
 use mathlib.Core.Path.{sym, _∙_}
 use borrow.Author.Needs.{needs}
-use Rattle.parsing.proofs.head_end.Statement.{statement}
-use Rattle.parsing.proofs.head_end.Tie as tie
+use Rattle.file_head.proofs.head_end.Statement.{statement}
+use Rattle.file_head.proofs.head_end.Tie as tie
 
 returns : tie.Need-returns
 returns c = head-long _ _ _ (c .if1 .taken)

@@ -1,10 +1,10 @@
-use Rattle.parsing.specs.FieldLaws.{version-short, version-other, version-right}
+use Rattle.file_head.specs.HeadLaws.{version-short, version-other, version-right}
 use Rattle.parsing.specs.Parser.{pastOf}
 use mathlib.Core.Path.{ap, sym}
 use native.Mathlib.Omega.{arith}
 use borrow.Author.Needs.{needs}
-use Rattle.parsing.proofs.version_end.Statement.{statement}
-use Rattle.parsing.proofs.version_end.Tie as tie
+use Rattle.file_head.proofs.version_end.Statement.{statement}
+use Rattle.file_head.proofs.version_end.Tie as tie
 
 returns : tie.Need-returns
 returns c = ap pastOf (sym (version-short _ _ (omega arith)))

@@ -1,13 +1,13 @@
-use Rattle.parsing.specs.FieldLaws.{marked-short, marked-wrong, marked-on, marked-done}
+use Rattle.file_head.specs.HeadLaws.{marked-short, marked-wrong, marked-on, marked-done}
 use Rattle.parsing.specs.Fields.{marked}
 use Rattle.parsing.specs.Parser.{pastOf}
 use lib.ListN.{length, drop}
 use mathlib.Core.Path.{_≡_, refl, sym, ap, _∙_}
 use Prim.Native.Nat.{_-_, _≤_}
 use native.Mathlib.Omega.{arith}
 use borrow.Author.Needs.{needs}
-use Rattle.parsing.proofs.mark_end.Statement.{statement}
-use Rattle.parsing.proofs.mark_end.Tie as tie
+use Rattle.file_head.proofs.mark_end.Statement.{statement}
+use Rattle.file_head.proofs.mark_end.Tie as tie
 
 abbrev Inv-loop : tie.InvT-loop
 Inv-loop file mark i₀ i = (i ≤ length mark) × (pastOf (marked (drop i mark) file i) ≡ pastOf (marked mark file 0))

@@ -1,23 +1,16 @@
--- Laws of the fields, as the functions that read them meet them.
-use Prim.Native.Nat.{ℕ, suc, _+_, _*_, _-_, _^_, _≤_, _<_}
+-- Laws of the head, as the functions that read it meet them.
+use Prim.Native.Nat.{ℕ, _+_, _*_, _≤_, _<_}
 use mathlib.Core.Path.{_≡_}
-use mathlib.Core.Bool.{true}
 use mathlib.Core.List.{List}
-use native.Mathlib.Omega.{arith}
 use native.Mathlib.Numerals.{add-one}
 use borrow.Author.Tests.{le-leb, lt-leb, le-ltb, lt-ltb, eq-eqb, ne-eqb}
-use lib.Dec.{ltb}
-use lib.IntN.{pos, negsuc, _+ℤ_}
 use lib.ListN.{length, getD, drop, drop-of-length-le}
 use lib.Seq.{drop-cons}
-use mir.Syntax.{w32}
-use mir.Val.{toZ, SFits}
-use mir.Facts.{toZ-pos, toZ-neg, sfits-toZ}
 use Rattle.parsing.specs.declared.Refusal.{Refusal}
 use Rattle.parsing.specs.declared.Scan.the-variants.{Past, Stopped}
 use Rattle.parsing.specs.Parser.{refusal, read, refuse, pastOf}
 use Rattle.parsing.specs.Fields.{cut, marked, version, head}
 use Rattle.parsing.specs.ParserLaws.{past-read, past-refuse}
 
 module _ (ms s : List ℕ) (i : ℕ) where
   pub marked-short : i < length ms → length s ≤ i → pastOf (marked (drop i ms) s i) ≡ Stopped (cut s)
@@ -58,17 +51,3 @@ module _ (ms : List ℕ) (limit : ℕ) (s : List ℕ) where
   pub head-version : length s ≤ limit → (next : ℕ) → pastOf (marked ms s 0) ≡ Past next → pastOf (version s next) ≡ pastOf (head ms limit s 0)
   unfolding head
   head-version h next e = rw (le-leb (length s) limit h, past-read (marked ms s 0) e .is)
-
--- A value with its highest bit set, as the function makes it.
-module _ (low h : ℕ) (small : low < 16777216) (set : 128 ≤ h) (byte : h < 256) where
-  pub value-high : toZ w32 (low + 16777216 * (h - 128)) +ℤ negsuc 2147483647 ≡ toZ w32 (low + 16777216 * h)
-  value-high =
-      let m = low + 16777216 * (h - 128) in
-      let p : toZ w32 m ≡ pos m = toZ-pos w32 (omega arith) in
-      let k = 2 ^ 31 - suc m in
-      let q : low + 16777216 * h ≡ 2 ^ 32 - suc k = omega arith in
-      let l : ltb m 2147483648 ≡ true = lt-ltb m 2147483648 (omega arith) in
-      rw (p, q, toZ-neg w32 k (omega arith), l)
-
-  pub value-fits : SFits w32 (toZ w32 (low + 16777216 * (h - 128)) +ℤ negsuc 2147483647)
-  value-fits = rw value-high (sfits-toZ {n = low + 16777216 * h} (record { fits = omega arith }))
