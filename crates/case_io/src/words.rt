@@ -57,7 +57,7 @@ pub fn print_frames(words: &[i32], frames: usize, k: usize) {
 }
 
 // `kept` where each word is as it was.
-pub fn print_kept(words: &[i32]) {
+fn print_kept(words: &[i32]) {
     if all_are(words, UNTOUCHED) {
         say(b" kept");
     }

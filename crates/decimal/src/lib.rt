@@ -48,7 +48,7 @@ fn put_digits(out: &mut [u8], at: usize, k: usize, n: u64) -> usize
 }
 
 // A number in decimal.
-pub fn put_decimal(out: &mut [u8], at: usize, n: u64) -> usize
+fn put_decimal(out: &mut [u8], at: usize, n: u64) -> usize
     requires { ⌜ at + 20 ≤ length (now out) ⌝ }
     ensures { λ r. ⌜ WroteText at (decimal n) (now (out .entry)) r (now (out .exit)) ⌝ }
 {

@@ -12,7 +12,7 @@ ghost use Rattle.procedure_file.specs.Loaded.{Tabled};
 ghost use Rattle.procedure_lookup.specs.Lookup.{blockThere, lookupOf, stretchOf, placeBy, placeOf, partAt};
 
 // Where a block's stretch begins and ends.
-pub enum Place {
+enum Place {
     At { from: usize, to: usize },
     Nowhere(Refusal),
 }
