@@ -1,13 +1,24 @@
 -- The texts, computed: the example of document 01 ('exactly'), and the ends of the ranges of numbers.
+use Prim.Native.Nat.{ℕ}
 use mathlib.Core.Path.{_≡_, refl}
-use mathlib.Core.List.{[], _∷_}
+use mathlib.Core.List.{List, [], _∷_, _++_}
 use lib.IntN.{pos, negsuc}
 use Rattle.semantics.specs.Run.{value, uncaught, ended, spent, deep}
 use Rattle.decimal.specs.Decimal.{digits, decimal, signed, numbered}
 use Rattle.text.specs.Text.{endText, stopText, machineLine, targetLine, bothText, refusedText, benchWord}
 
 -- `target 106`, `bench value 7 steps 6`, `controller value 7 steps 11`
-pub t-argument-0 : bothText 106 (ended (value (pos 7))) 6 (ended (value (pos 7))) 11 ≡ 116 ∷ 97 ∷ 114 ∷ 103 ∷ 101 ∷ 116 ∷ 32 ∷ 49 ∷ 48 ∷ 54 ∷ 10 ∷ 98 ∷ 101 ∷ 110 ∷ 99 ∷ 104 ∷ 32 ∷ 118 ∷ 97 ∷ 108 ∷ 117 ∷ 101 ∷ 32 ∷ 55 ∷ 32 ∷ 115 ∷ 116 ∷ 101 ∷ 112 ∷ 115 ∷ 32 ∷ 54 ∷ 10 ∷ 99 ∷ 111 ∷ 110 ∷ 116 ∷ 114 ∷ 111 ∷ 108 ∷ 108 ∷ 101 ∷ 114 ∷ 32 ∷ 118 ∷ 97 ∷ 108 ∷ 117 ∷ 101 ∷ 32 ∷ 55 ∷ 32 ∷ 115 ∷ 116 ∷ 101 ∷ 112 ∷ 115 ∷ 32 ∷ 49 ∷ 49 ∷ 10 ∷ []
+abbrev targetIs : List ℕ
+targetIs = 116 ∷ 97 ∷ 114 ∷ 103 ∷ 101 ∷ 116 ∷ 32 ∷ 49 ∷ 48 ∷ 54 ∷ 10 ∷ []
+
+abbrev benchIs : List ℕ
+benchIs = 98 ∷ 101 ∷ 110 ∷ 99 ∷ 104 ∷ 32 ∷ 118 ∷ 97 ∷ 108 ∷ 117 ∷ 101 ∷ 32 ∷ 55 ∷ 32 ∷ 115 ∷ 116 ∷ 101 ∷ 112 ∷ 115 ∷ 32 ∷ 54 ∷ 10 ∷ []
+
+abbrev controllerIs : List ℕ
+controllerIs = 99 ∷ 111 ∷ 110 ∷ 116 ∷ 114 ∷ 111 ∷ 108 ∷ 108 ∷ 101 ∷ 114 ∷ 32 ∷ 118 ∷ 97 ∷ 108 ∷ 117 ∷ 101 ∷ 32 ∷ 55 ∷ 32 ∷ 115 ∷ 116 ∷ 101 ∷ 112 ∷ 115 ∷ 32 ∷ 49 ∷ 49 ∷ 10 ∷ []
+
+-- T with argument 0.
+pub t-argument-0 : bothText 106 (ended (value (pos 7))) 6 (ended (value (pos 7))) 11 ≡ targetIs ++ benchIs ++ controllerIs
 unfolding digits decimal signed numbered endText stopText machineLine targetLine bothText
 t-argument-0 = refl
 
