@@ -9,8 +9,7 @@ use Rattle.semantics.specs.Code.{Code}
 use Rattle.semantics.specs.SlotRules.{KeepsSlotRules}
 use Rattle.parsing.specs.Parser.{accepted}
 use Rattle.parsing.specs.Bytes.{Bytes}
-use Rattle.target_tags.specs.Tag.{maxSlots}
-use Rattle.target_layout.specs.Layout.{fileLimit}
+use Rattle.target_tags.specs.Tag.{fileLimit, maxSlots}
 use Rattle.target_file.specs.Writing.{writing, InRange}
 use Rattle.target_file.specs.Check.{checkOf, codeOf}
 

@@ -15,13 +15,15 @@ use Rattle.parsing.specs.Fields.{byte, count, ended}
 use Rattle.parsing.specs.ParserLaws.{sequence, read-count, ReadMany, none, one, read-many, byte-in}
 use Rattle.parsing.specs.BytesAtLaws.{BytesAt, read-ended}
 use Rattle.parsing.specs.ReadsLaws.{reads-head, reads-ended}
-use Rattle.target_tags.specs.Tag.{pairAt}
-use Rattle.target_names.specs.Names.{entryKinds}
-use Rattle.target_layout.specs.Layout.{spc, fileLimit, sized, expression, function, functions, targets, code}
+use Rattle.target_tags.specs.Tag.{fileLimit, pairAt}
+use Rattle.target_slots.specs.Slots.{entryKinds}
+use Rattle.target_parts.specs.Parts.{sized}
+use Rattle.target_expressions.specs.Expressions.{expression}
+use Rattle.target_layout.specs.Layout.{spc, function, functions, targets, code}
 use Rattle.target_file.specs.Check.{arities}
 use Rattle.target_file.specs.Writing.{size, Nests}
 use Rattle.target_file.specs.LoadedCode.{ExprAt}
-use Rattle.target_layout.specs.PartLaws.{impossible, sized-read}
+use Rattle.target_expressions.specs.PartLaws.{impossible, sized-read}
 use Rattle.target_layout.specs.FileLaws.{read-functions, functions-right, read-code}
 use Rattle.target_file.specs.RightLaws.{entry-like}
 use Rattle.target_file.specs.ReadLaws.{expression-found}

@@ -7,21 +7,23 @@ use native.Mathlib.Omega.{arith}
 use lib.ListN.{length, getD, drop, length-drop}
 use lib.Seq.{length-take-le}
 use Rattle.semantics.specs.Code.{Expr, Code}
-use Rattle.parsing.specs.declared.Checked.the-variants.{Accepted}
-use Rattle.parsing.specs.Parser.{read}
+use Rattle.parsing.specs.Parser.{read, accepted, orElse}
+use Rattle.parsing.specs.VerdictLaws.{or-accepted}
 use Rattle.parsing.specs.ParserLaws.{sequence}
 use Rattle.target_tags.specs.declared.tag.Tag.{Tag}
 use Rattle.target_tags.specs.declared.tag.Tag.the-variants.{Branch, Continuation, ContinuationWithHandler}
 use Rattle.target_tags.specs.Tag.{pairAt, tagAt}
-use Rattle.target_names.specs.Names.{_andAlso_, binds, reads, differ, function, arity, values, jumpNames, continuationWithHandlerNames, namesOf, judged, bound}
+use Rattle.target_slots.specs.Slots.{binds, reads, differ, bound}
+use Rattle.target_names.specs.Names.{function, arity, values, jumpNames, continuationWithHandlerNames, namesOf, judged}
 use Rattle.target_tags.specs.ViewLaws.{View, isConstant, isCopy, isDifference, isJump, isResume, isHandle, isBranch, isContinuation, isBoth, isRefused, view}
-use Rattle.target_layout.specs.Layout.{measured, sized, Reading, nested, Behind, ends, goesOn, goesOnBound, part, sizedPart, Node, found, missing, nodeOf, readBehind, readNode, expressionN, expression, slotsAt}
+use Rattle.target_parts.specs.Parts.{measured, sized}
+use Rattle.target_expressions.specs.Expressions.{Reading, nested, Behind, ends, goesOn, goesOnBound, part, sizedPart, Node, found, missing, nodeOf, readBehind, readNode, expressionN, expression, slotsAt}
 use Rattle.semantics.specs.SlotRules.{wholeKind, continuationKind, handlerKind, Kinds, bindKind, KeepsRules}
 use Rattle.target_file.specs.Check.{arities}
 use Rattle.target_file.specs.Writing.{size, Nests}
 use Rattle.target_file.specs.LoadedCode.{ExprAt}
-use Rattle.target_layout.specs.PartLaws.{impossible, before-read, after-read, measured-read, nested-read, sized-read}
-use Rattle.target_file.specs.RightLaws.{Like, like-bind, also-right, binds-right, reads-right, differ-right, function-right, arity-right, values-right}
+use Rattle.target_expressions.specs.PartLaws.{impossible, before-read, after-read, measured-read, nested-read, sized-read}
+use Rattle.target_file.specs.RightLaws.{Like, like-bind, binds-right, reads-right, differ-right, function-right, arity-right, values-right}
 
 pub slots-length : (s : List ℕ) (at n : ℕ) → at + n ≤ length s → length (slotsAt s at n) ≡ n
 slots-length s at n h = let l = length-drop at s in length-take-le n (drop at s) (omega arith)
@@ -90,7 +92,7 @@ module _ (names : Bool) (ps s : List ℕ) (Q : Code) (named : names ≡ true →
     by-equal : {r : Expr} → r ≡ e → Found level ks at r next → Found level ks at e next
     by-equal q f = subst (λ r. Found level ks at r next) q f
 
-    from-found : {t : Tag} → View s at t → t ≡ tagAt s at → (names ≡ true → namesOf ps ks s at t ≡ Accepted) → FoundNode level ks (nodeOf s ks at t) e next → Found level ks at e next
+    from-found : {t : Tag} → View s at t → t ≡ tagAt s at → (names ≡ true → namesOf ps ks s at t ≡ accepted) → FoundNode level ks (nodeOf s ks at t) e next → Found level ks at e next
     unfolding namesOf jumpNames continuationWithHandlerNames
     from-found (isConstant f h) is right (r, F, o) =
         let x = getD s (at + 1) 0 in
@@ -110,7 +112,7 @@ module _ (names : Bool) (ps s : List ℕ) (Q : Code) (named : names ≡ true →
           past = omega (arith, F .past);
           nests = F .nests;
           right = λ q KS l.
-              let a = also-right (binds (at + 1) x) (reads ks 1 (at + 2) y) (right q) in
+              let a = or-accepted (binds (at + 1) x) (reads ks 1 (at + 2) y) (right q) in
               let b = binds-right (at + 1) x (a .0) in
               (b, reads-right l wholeKind (at + 2) y (a .1), F .right q (bindKind KS x wholeKind) (like-bind x wholeKind b l));
         })
@@ -124,8 +126,8 @@ module _ (names : Bool) (ps s : List ℕ) (Q : Code) (named : names ≡ true →
           past = omega (arith, F .past);
           nests = F .nests;
           right = λ q KS l.
-              let a = also-right (binds (at + 1) x) (_andAlso_ (reads ks 1 (at + 2) y) (reads ks 1 (at + 3) z)) (right q) in
-              let c = also-right (reads ks 1 (at + 2) y) (reads ks 1 (at + 3) z) (a .1) in
+              let a = or-accepted (binds (at + 1) x) (orElse (reads ks 1 (at + 2) y) (reads ks 1 (at + 3) z)) (right q) in
+              let c = or-accepted (reads ks 1 (at + 2) y) (reads ks 1 (at + 3) z) (a .1) in
               let b = binds-right (at + 1) x (a .0) in
               (b, reads-right l wholeKind (at + 2) y (c .0), reads-right l wholeKind (at + 3) z (c .1), F .right q (bindKind KS x wholeKind) (like-bind x wholeKind b l));
         })
@@ -141,11 +143,11 @@ module _ (names : Bool) (ps s : List ℕ) (Q : Code) (named : names ≡ true →
           past = omega arith;
           nests = tt;
           right = λ q KS l.
-              let a = also-right (function ps (at + 1) g) (_andAlso_ (_andAlso_ (reads ks 2 (at + 3) c) (reads ks 3 (at + 4) d)) (_andAlso_ (arity ps (at + 5) g n) (values ks s (at + 6) n))) (right q) in
-              let b = also-right (_andAlso_ (reads ks 2 (at + 3) c) (reads ks 3 (at + 4) d)) (_andAlso_ (arity ps (at + 5) g n) (values ks s (at + 6) n)) (a .1) in
-              let u = also-right (reads ks 2 (at + 3) c) (reads ks 3 (at + 4) d) (b .0) in
-              let v = also-right (arity ps (at + 5) g n) (values ks s (at + 6) n) (b .1) in
-              (function-right Q (named q) (at + 1) g (a .0), reads-right l continuationKind (at + 3) c (u .0), reads-right l handlerKind (at + 4) d (u .1), few ∙ arity-right Q (named q) (at + 5) g n (v .0), values-right l s n (at + 6) h (v .1));
+              let w = or-accepted (jumpNames ps ks at g c d n) (values ks s (at + 6) n) (right q) in
+              let v = or-accepted (orElse (function ps (at + 1) g) (orElse (reads ks 2 (at + 3) c) (reads ks 3 (at + 4) d))) (arity ps (at + 5) g n) (w .0) in
+              let a = or-accepted (function ps (at + 1) g) (orElse (reads ks 2 (at + 3) c) (reads ks 3 (at + 4) d)) (v .0) in
+              let u = or-accepted (reads ks 2 (at + 3) c) (reads ks 3 (at + 4) d) (a .1) in
+              (function-right Q (named q) (at + 1) g (a .0), reads-right l continuationKind (at + 3) c (u .0), reads-right l handlerKind (at + 4) d (u .1), few ∙ arity-right Q (named q) (at + 5) g n (v .1), values-right l s n (at + 6) h (w .1));
         })
     from-found (isResume f h) is right (o, m) =
         let c = getD s (at + 1) 0 in
@@ -155,7 +157,7 @@ module _ (names : Bool) (ps s : List ℕ) (Q : Code) (named : names ≡ true →
           here = sym is;
           past = sym m;
           nests = tt;
-          right = λ q KS l. let a = also-right (reads ks 2 (at + 1) c) (reads ks 1 (at + 2) y) (right q) in (reads-right l continuationKind (at + 1) c (a .0), reads-right l wholeKind (at + 2) y (a .1));
+          right = λ q KS l. let a = or-accepted (reads ks 2 (at + 1) c) (reads ks 1 (at + 2) y) (right q) in (reads-right l continuationKind (at + 1) c (a .0), reads-right l wholeKind (at + 2) y (a .1));
         })
     from-found (isHandle f h) is right (o, m) =
         by-equal o (record { here = sym is; past = sym m; nests = tt; right = λ q KS l. reads-right l handlerKind (at + 1) (getD s (at + 1) 0) (right q) })
@@ -168,7 +170,7 @@ module _ (names : Bool) (ps s : List ℕ) (Q : Code) (named : names ≡ true →
           past = omega (arith, F .past);
           nests = (P .shallow, P .stands .nests, F .nests);
           right = λ q KS l.
-              let a = also-right (reads ks 1 (at + 1) y) (reads ks 1 (at + 2) z) (right q) in
+              let a = or-accepted (reads ks 1 (at + 1) y) (reads ks 1 (at + 2) z) (right q) in
               (reads-right l wholeKind (at + 1) y (a .0), reads-right l wholeKind (at + 2) z (a .1), P .stands .right q KS l, F .right q KS l);
         })
     from-found (isContinuation f h) is right (r, P, (k, F, o)) =
@@ -180,7 +182,7 @@ module _ (names : Bool) (ps s : List ℕ) (Q : Code) (named : names ≡ true →
           past = omega (arith, F .past);
           nests = (P .shallow, P .stands .nests, F .nests);
           right = λ q KS l.
-              let a = also-right (binds (at + 1) x) (binds (at + 2) y) (right q) in
+              let a = or-accepted (binds (at + 1) x) (binds (at + 2) y) (right q) in
               let b₁ = binds-right (at + 1) x (a .0) in
               let b₂ = binds-right (at + 2) y (a .1) in
               (b₁, b₂, P .stands .right q (bindKind KS x continuationKind) (like-bind x continuationKind b₁ l), F .right q (bindKind KS y wholeKind) (like-bind y wholeKind b₂ l));
@@ -195,9 +197,9 @@ module _ (names : Bool) (ps s : List ℕ) (Q : Code) (named : names ≡ true →
           past = omega (arith, F .past);
           nests = (P .shallow, P .stands .nests, (P .shallow, H .stands .nests, F .nests));
           right = λ q KS l.
-              let a = also-right (_andAlso_ (binds (at + 1) x) (binds (at + 2) y)) (_andAlso_ (binds (at + 3) t) (differ (at + 3) x t)) (right q) in
-              let a₁ = also-right (binds (at + 1) x) (binds (at + 2) y) (a .0) in
-              let a₂ = also-right (binds (at + 3) t) (differ (at + 3) x t) (a .1) in
+              let a = or-accepted (orElse (binds (at + 1) x) (binds (at + 2) y)) (orElse (binds (at + 3) t) (differ (at + 3) x t)) (right q) in
+              let a₁ = or-accepted (binds (at + 1) x) (binds (at + 2) y) (a .0) in
+              let a₂ = or-accepted (binds (at + 3) t) (differ (at + 3) x t) (a .1) in
               let b₁ = binds-right (at + 1) x (a₁ .0) in
               let b₂ = binds-right (at + 2) y (a₁ .1) in
               let b₃ = binds-right (at + 3) t (a₂ .0) in (
@@ -212,9 +214,9 @@ module _ (names : Bool) (ps s : List ℕ) (Q : Code) (named : names ≡ true →
         })
     from-found (isRefused r) is right w = absurd w
 
-  judged-right : (ks : List ℕ) (at : ℕ) (t : Tag) → judged names ps ks s at t ≡ Accepted → names ≡ true → namesOf ps ks s at t ≡ Accepted
+  judged-right : (ks : List ℕ) (at : ℕ) (t : Tag) → judged names ps ks s at t ≡ accepted → names ≡ true → namesOf ps ks s at t ≡ accepted
   unfolding judged
-  judged-right ks at t e q = sym (ap (λ b. cond b (namesOf ps ks s at t) Accepted) q) ∙ e
+  judged-right ks at t e q = sym (ap (λ b. cond b (namesOf ps ks s at t) accepted) q) ∙ e
 
   found-fuel : (n level : ℕ) (ks : List ℕ) (at : ℕ) (e : Expr) (next : ℕ) → expressionN names ps s n level ks at ≡ read e next → Found level ks at e next
   unfolding Finds

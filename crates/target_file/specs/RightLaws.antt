@@ -3,7 +3,7 @@
 use Prim.Native.Nat.{ℕ, zero, suc, _+_, _≤_, _<_}
 use mathlib.Core.Path.{_≡_, refl, sym, ap, _∙_, subst}
 use mathlib.Core.Logic.{_≢_}
-use mathlib.Core.Bool.{Bool, true, false, cond}
+use mathlib.Core.Bool.{Bool, true, false, not}
 use mathlib.Core.List.{List, _∷_}
 use native.Mathlib.Omega.{arith}
 use native.Mathlib.Numerals.{add-one}
@@ -18,12 +18,12 @@ use Rattle.semantics.specs.WellFormed.{All}
 use Rattle.semantics.specs.SlotRules.{Kind, unboundKind, wholeKind, continuationKind, handlerKind, Kinds, kindAt, bindKind, IsBound}
 use Rattle.semantics.specs.SlotRules as rules
 use Rattle.semantics.specs.ListLaws.{put-same, put-other}
-use Rattle.parsing.specs.declared.Checked.{Checked}
-use Rattle.parsing.specs.declared.Checked.the-variants.{Accepted, Refused}
-use Rattle.parsing.specs.Parser.{refusal}
-use Rattle.target_names.specs.Names.{_andAlso_, unless, binds, reads, differ, function, arity, values, bound, entryKinds}
-use Rattle.target_layout.specs.Layout.{slotsAt}
-use Rattle.target_layout.specs.PartLaws.{impossible}
+use Rattle.parsing.specs.Parser.{Verdict, accepted, orElse, refusedUnless}
+use Rattle.parsing.specs.VerdictLaws.{or-accepted, unless-accepted}
+use Rattle.target_slots.specs.Slots.{binds, reads, differ, bound, entryKinds}
+use Rattle.target_names.specs.Names.{function, arity, values}
+use Rattle.target_expressions.specs.Expressions.{slotsAt}
+use Rattle.target_expressions.specs.PartLaws.{impossible}
 use Rattle.target_file.specs.Check.{arities}
 
 -- ── Kinds as numbers ────────────────────────────────────────────────────────────────────────────
@@ -98,48 +98,40 @@ entry-like (suc n) h =
 
 -- ── Names ───────────────────────────────────────────────────────────────────────────────────────
 
-unless-right : (t : Bool) (n place : ℕ) → unless t n place ≡ Accepted → t ≡ true
-unless-right true n place e = refl
-unless-right false n place e = impossible (cc)
-
-pub also-right : (a b : Checked) → _andAlso_ a b ≡ Accepted → (a ≡ Accepted) × (b ≡ Accepted)
-also-right Accepted b e = (refl, e)
-also-right (Refused r) b e = impossible (cc)
-
-pub also-holds : {a b : Checked} → a ≡ Accepted → b ≡ Accepted → _andAlso_ a b ≡ Accepted
-also-holds p q = rw (p, q)
+pub or-holds : {u v : Verdict} → u ≡ accepted → v ≡ accepted → orElse u v ≡ accepted
+or-holds p q = rw (p, q)
 
 module _ (place x : ℕ) where
-  pub binds-right : binds place x ≡ Accepted → x < 36
+  pub binds-right : binds place x ≡ accepted → x < 36
   unfolding binds
-  binds-right e = ltb-true x 36 (unless-right (ltb x 36) 13 place e)
+  binds-right e = ltb-true x 36 (unless-accepted (ltb x 36) 13 place e)
 
-  pub binds-holds : x < 36 → binds place x ≡ Accepted
+  pub binds-holds : x < 36 → binds place x ≡ accepted
   unfolding binds
   binds-holds h = rw (lt-ltb x 36 h)
 
 module _ {KS : Kinds} {ks : List ℕ} (l : Like KS ks) (k : Kind) (place x : ℕ) where
-  pub reads-right : reads ks (kindNumber k) place x ≡ Accepted → IsBound 36 KS k x
+  pub reads-right : reads ks (kindNumber k) place x ≡ accepted → IsBound 36 KS k x
   unfolding reads
   reads-right e =
-      let p = also-right (binds place x) (unless (eqb (getD ks x 0) (kindNumber k)) 11 place) e in
+      let p = or-accepted (binds place x) (refusedUnless (eqb (getD ks x 0) (kindNumber k)) 11 place) e in
       let b = binds-right place x (p .0) in
-      (b, same-kind (kindAt KS x) k (sym (l .same x b) ∙ eqb-true (getD ks x 0) (kindNumber k) (unless-right (eqb (getD ks x 0) (kindNumber k)) 11 place (p .1))))
+      (b, same-kind (kindAt KS x) k (sym (l .same x b) ∙ eqb-true (getD ks x 0) (kindNumber k) (unless-accepted (eqb (getD ks x 0) (kindNumber k)) 11 place (p .1))))
 
-  pub reads-holds : IsBound 36 KS k x → reads ks (kindNumber k) place x ≡ Accepted
+  pub reads-holds : IsBound 36 KS k x → reads ks (kindNumber k) place x ≡ accepted
   unfolding reads
   reads-holds h = rw (binds-holds place x (h .0), eq-eqb (getD ks x 0) (kindNumber k) (l .same x (h .0) ∙ ap kindNumber (h .1)))
 
 module _ (place x t : ℕ) where
-  pub differ-right : differ place x t ≡ Accepted → x ≢ t
+  pub differ-right : differ place x t ≡ accepted → x ≢ t
   unfolding differ
-  differ-right e = go (eqb x t) refl e
+  differ-right e = go (eqb x t) refl (unless-accepted (not (eqb x t)) 13 place e)
     where
-      go : (b : Bool) → eqb x t ≡ b → cond b (Refused (refusal 13 place)) Accepted ≡ Accepted → x ≢ t
+      go : (b : Bool) → eqb x t ≡ b → not b ≡ true → x ≢ t
       go true q w = impossible (cc)
       go false q w = eqb-false x t q
 
-  pub differ-holds : x ≢ t → differ place x t ≡ Accepted
+  pub differ-holds : x ≢ t → differ place x t ≡ accepted
   unfolding differ
   differ-holds h = rw (ne-eqb x t h)
 
@@ -150,19 +142,19 @@ module _ {ps : List ℕ} (Q : Code) (named : ps ≡ arities Q) (place g : ℕ) w
   functions-of : length ps ≡ length Q
   functions-of = ap length named ∙ length-map Q (λ (D : Target). D .params)
 
-  pub function-right : function ps place g ≡ Accepted → g < length Q
+  pub function-right : function ps place g ≡ accepted → g < length Q
   unfolding function
-  function-right e = omega (arith, ltb-true g (length ps) (unless-right (ltb g (length ps)) 9 place e), functions-of)
+  function-right e = omega (arith, ltb-true g (length ps) (unless-accepted (ltb g (length ps)) 9 place e), functions-of)
 
-  pub function-holds : g < length Q → function ps place g ≡ Accepted
+  pub function-holds : g < length Q → function ps place g ≡ accepted
   unfolding function
   function-holds h = rw (lt-ltb g (length ps) (omega (arith, h, functions-of)))
 
-  pub arity-right : (n : ℕ) → arity ps place g n ≡ Accepted → n ≡ targetOf Q g .params
+  pub arity-right : (n : ℕ) → arity ps place g n ≡ accepted → n ≡ targetOf Q g .params
   unfolding arity
-  arity-right n e = eqb-true n (getD ps g 0) (unless-right (eqb n (getD ps g 0)) 10 place e) ∙ params-at
+  arity-right n e = eqb-true n (getD ps g 0) (unless-accepted (eqb n (getD ps g 0)) 10 place e) ∙ params-at
 
-  pub arity-holds : (n : ℕ) → n ≡ targetOf Q g .params → arity ps place g n ≡ Accepted
+  pub arity-holds : (n : ℕ) → n ≡ targetOf Q g .params → arity ps place g n ≡ accepted
   unfolding arity
   arity-holds n e = rw (eq-eqb n (getD ps g 0) (e ∙ sym params-at))
 
@@ -170,14 +162,14 @@ slots-cons : (s : List ℕ) (at n : ℕ) → at + suc n ≤ length s → slotsAt
 slots-cons s at n h = rw (drop-cons s at 0 (omega arith), add-one at)
 
 module _ {KS : Kinds} {ks : List ℕ} (l : Like KS ks) (s : List ℕ) where
-  pub values-right : (n at : ℕ) → at + n ≤ length s → values ks s at n ≡ Accepted → All (IsBound 36 KS wholeKind) (slotsAt s at n)
+  pub values-right : (n at : ℕ) → at + n ≤ length s → values ks s at n ≡ accepted → All (IsBound 36 KS wholeKind) (slotsAt s at n)
   values-right zero at h e = tt
   values-right (suc n) at h e =
-      let p = also-right (reads ks 1 at (getD s at 0)) (values ks s (at + 1) n) e in
+      let p = or-accepted (reads ks 1 at (getD s at 0)) (values ks s (at + 1) n) e in
       rw (slots-cons s at n h) (reads-right l wholeKind at (getD s at 0) (p .0), values-right n (at + 1) (omega arith) (p .1))
 
-  pub values-holds : (n at : ℕ) → at + n ≤ length s → All (IsBound 36 KS wholeKind) (slotsAt s at n) → values ks s at n ≡ Accepted
+  pub values-holds : (n at : ℕ) → at + n ≤ length s → All (IsBound 36 KS wholeKind) (slotsAt s at n) → values ks s at n ≡ accepted
   values-holds zero at h a = refl
   values-holds (suc n) at h a =
       let b : All (IsBound 36 KS wholeKind) (getD s at 0 ∷ slotsAt s (at + 1) n) = rw (slots-cons s at n h) at a in
-      also-holds (reads-holds l wholeKind at (getD s at 0) (b .0)) (values-holds n (at + 1) (omega arith) (b .1))
+      or-holds (reads-holds l wholeKind at (getD s at 0) (b .0)) (values-holds n (at + 1) (omega arith) (b .1))

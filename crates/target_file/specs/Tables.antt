@@ -6,7 +6,8 @@ use mathlib.Core.List.{List, [], _∷_, _++_}
 use lib.ListN.{length, take, replicate}
 use Rattle.semantics.specs.Code.{Code}
 use Rattle.parsing.specs.Parser.{read, Verdict, accepted, refused}
-use Rattle.target_layout.specs.Layout.{fileLimit, maxFunctions, code}
+use Rattle.target_tags.specs.Tag.{fileLimit}
+use Rattle.target_layout.specs.Layout.{maxFunctions, code}
 use Rattle.target_file.specs.Writing.{size}
 use Rattle.target_file.specs.Check.{arities, codeOf}
 

@@ -9,7 +9,7 @@ use Rattle.semantics.specs.Program.{Block, constant, copy, difference, call, go
 use Rattle.semantics.specs.WellFormed.{All, WellFormed}
 use Rattle.semantics.specs.Translation.{translate}
 use Rattle.parsing.specs.Parser.{accepted}
-use Rattle.target_layout.specs.Layout.{fileLimit}
+use Rattle.target_tags.specs.Tag.{fileLimit}
 use Rattle.target_file.specs.Writing.{writing}
 use Rattle.target_file.specs.Check.{checkOf, codeOf}
 

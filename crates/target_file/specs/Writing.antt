@@ -10,6 +10,7 @@ use Rattle.semantics.specs.WellFormed.{All}
 use Rattle.parsing.specs.Parser.{joined}
 use Rattle.parsing.specs.Bytes.{pairBytes, valueBytes}
 use Rattle.target_layout.specs.Layout.{maxFunctions}
+use Rattle.target_tags.specs.Tag.{maxParameters}
 
 -- The parts of an expression, in the order in which they are written.
 pub data Parts : Type 0 where
@@ -77,7 +78,7 @@ abbrev pub Nests : ℕ → Expr → Type 0
 Nests level e = PartsNest level (partsOf e)
 
 pub record TargetInRange (D : Target) : Type 0 where
-  pub params : D .params ≤ 32
+  pub params : D .params ≤ maxParameters
   pub constants : ConstantsFit (D .body)
   pub levels : Nests 0 (D .body)
 

@@ -17,7 +17,7 @@ use Rattle.target_tags.specs.declared.tag.Tag.{Tag}
 use Rattle.target_tags.specs.declared.tag.Tag.the-variants.{Constant, Copy, Difference, Jump, Resume, Handle, Branch, Continuation, ContinuationWithHandler, Refused}
 use Rattle.target_tags.specs.Tag.{pairAt, tagAt}
 use Rattle.target_tags.specs.ViewLaws.{View, isConstant, isCopy, isDifference, isJump, isResume, isHandle, isBranch, isContinuation, isBoth, isRefused, seen}
-use Rattle.target_layout.specs.Layout.{slotsAt}
+use Rattle.target_expressions.specs.Expressions.{slotsAt}
 use Rattle.target_file.specs.Writing.{size, exprBytes, targetBytes, ConstantsFit}
 use Rattle.target_file.specs.LoadedCode.{ExprAt}
 use Rattle.target_file.specs.StandsLaws.{stands-inside}

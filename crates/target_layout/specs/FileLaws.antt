@@ -15,31 +15,37 @@ use Rattle.parsing.specs.Parser.{refusal, Parsed, read, refuse, andThen, many, 
 use Rattle.parsing.specs.Fields.{cut, head, count, counted, ended}
 use Rattle.parsing.specs.ParserLaws.{past-read, past-refuse, sequence, count-is, count-outside, read-count}
 use Rattle.parsing.specs.BytesAtLaws.{BytesAt, read-head, past-head}
-use Rattle.target_tags.specs.Tag.{pairAt}
-use Rattle.target_names.specs.Names.{entryKinds}
-use Rattle.target_layout.specs.Layout.{spc, fileLimit, pair, sized, expression, function, functions, targets, code}
-use Rattle.target_layout.specs.Ends.{measuredEnd, bodyEnd, functionsRead}
-use Rattle.target_layout.specs.PartLaws.{impossible}
-use Rattle.target_layout.specs.EndLaws.{past-measured}
+use Rattle.target_tags.specs.Tag.{fileLimit, pairAt}
+use Rattle.target_slots.specs.Slots.{entryKinds}
+use Rattle.target_parts.specs.Parts.{pair, sized}
+use Rattle.target_parts.specs.PartsLaws.{pair-is, pair-outside}
+use Rattle.target_expressions.specs.Expressions.{expression}
+use Rattle.target_expressions.specs.Ends.{bodyEnd}
+use Rattle.target_expressions.specs.PartLaws.{impossible}
+use Rattle.target_layout.specs.Layout.{spc, function, functions, targets, code}
 
 -- The number of functions.
 module _ (s : List ℕ) (at : ℕ) where
-  pub functions-cut : length s < at + 2 → Outside (cut s) ≡ functionsRead (functions s at)
+  pub functions-cut : {r : Refusal} → counted (pair s at) ≡ Outside r → Outside r ≡ counted (functions s at)
+  unfolding functions
+  functions-cut e = rw (pair-outside s at e)
+
+  module _ (n : ℕ) (is : counted (pair s at) ≡ Is n) where
+    pub functions-none : n < 1 → Outside (refusal 5 at) ≡ counted (functions s at)
+    unfolding functions
+    functions-none h = rw (pair-is s at is, lt-leb 1 n h)
+
+    pub functions-many : 1 ≤ n → 2048 < n → Outside (refusal 5 at) ≡ counted (functions s at)
+    unfolding functions
+    functions-many l h = rw (pair-is s at is, le-leb 1 n l, lt-leb n 2048 h)
+
+    pub functions-some : 1 ≤ n → n ≤ 2048 → Is n ≡ counted (functions s at)
+    unfolding functions
+    functions-some l h = rw (pair-is s at is, le-leb 1 n l, le-leb n 2048 h)
+
+  pub functions-right : (n : ℕ) → at + 2 ≤ length s → n ≡ pairAt s at → 1 ≤ n → n ≤ 2048 → functions s at ≡ read n (at + 2)
   unfolding functions pair
-  functions-cut h = rw (lt-leb (at + 2) (length s) h)
-
-  module _ (n : ℕ) (inside : at + 2 ≤ length s) (is : n ≡ pairAt s at) where
-    pub functions-none : n < 1 → Outside (refusal 5 at) ≡ functionsRead (functions s at)
-    unfolding functions pair
-    functions-none h = rw (le-leb (at + 2) (length s) inside, ← is, lt-leb 1 n h)
-
-    pub functions-many : 1 ≤ n → 2048 < n → Outside (refusal 5 at) ≡ functionsRead (functions s at)
-    unfolding functions pair
-    functions-many l h = rw (le-leb (at + 2) (length s) inside, ← is, le-leb 1 n l, lt-leb n 2048 h)
-
-    pub functions-right : 1 ≤ n → n ≤ 2048 → functions s at ≡ read n (at + 2)
-    unfolding functions pair
-    functions-right l h = rw (le-leb (at + 2) (length s) inside, ← is, le-leb 1 n l, le-leb n 2048 h)
+  functions-right n inside is l h = rw (le-leb (at + 2) (length s) inside, ← is, le-leb 1 n l, le-leb n 2048 h)
 
   -- The number of functions that was read.
   pub record ReadFunctions (n next : ℕ) : Type 0 where
@@ -70,31 +76,19 @@ module _ (s : List ℕ) (at : ℕ) where
       go true a w = test (leb 1 (pairAt s at)) (leb (pairAt s at) 2048) refl refl (leb-true (at + 2) (length s) a) w
       go false a w = impossible (cc)
 
-  pub functions-is : {n : ℕ} → functionsRead (functions s at) ≡ Is n → functions s at ≡ read n (at + 2)
+  pub functions-is : {n : ℕ} → counted (functions s at) ≡ Is n → functions s at ≡ read n (at + 2)
   functions-is {n} e = go (functions s at) refl e
     where
-      go : (x : Parsed ℕ) → functions s at ≡ x → functionsRead x ≡ Is n → x ≡ read n (at + 2)
+      go : (x : Parsed ℕ) → functions s at ≡ x → counted x ≡ Is n → x ≡ read n (at + 2)
       go (read k m) w f = let p = read-functions w .past in let q : k ≡ n = cc in rw (p, q)
       go (refuse r) w f = impossible (cc)
 
-  pub functions-outside : {r : Refusal} → functionsRead (functions s at) ≡ Outside r → functions s at ≡ refuse r
+  pub functions-outside : {r : Refusal} → counted (functions s at) ≡ Outside r → functions s at ≡ refuse r
   functions-outside {r} e = go (functions s at) e
     where
-      go : (x : Parsed ℕ) → functionsRead x ≡ Outside r → x ≡ refuse r
+      go : (x : Parsed ℕ) → counted x ≡ Outside r → x ≡ refuse r
       go (read k m) f = impossible (cc)
       go (refuse q) f = ap refuse (cc)
-
--- The body of a function.
-module _ (names : Bool) (ps s : List ℕ) (ks : List ℕ) (at : ℕ) where
-  pub body-cut : length s < at + 2 → Stopped (cut s) ≡ bodyEnd names ps s ks at
-  unfolding bodyEnd pair
-  body-cut h = rw (lt-leb (at + 2) (length s) h)
-
-  pub body-in : (n : ℕ) {part : Scan} → at + 2 ≤ length s → n ≡ pairAt s at → part ≡ pastOf (expression names ps 0 ks s (at + 2))
-      → measuredEnd at (at + 2) n part ≡ bodyEnd names ps s ks at
-  unfolding bodyEnd pair
-  body-in n h e f =
-      rw (le-leb (at + 2) (length s) h, e, f) (past-measured at (at + 2) (pairAt s at) (expression names ps 0 ks s (at + 2)))
 
 -- A function.
 module _ (names : Bool) (ps s : List ℕ) (at : ℕ) where
@@ -125,11 +119,11 @@ module _ (names : Bool) (ps s : List ℕ) where
     after-head : head spc fileLimit s 0 ≡ read tt 5
     after-head = past-head s spc fileLimit whole .1
 
-    pub count-refused : (r : Refusal) → functionsRead (functions s 5) ≡ Outside r → Stopped r ≡ pastOf (code names ps s 0)
+    pub count-refused : (r : Refusal) → counted (functions s 5) ≡ Outside r → Stopped r ≡ pastOf (code names ps s 0)
     unfolding code targets
     count-refused r e = rw (after-head, functions-outside s 5 e)
 
-    module _ (n : ℕ) (some : functionsRead (functions s 5) ≡ Is n) where
+    module _ (n : ℕ) (some : counted (functions s 5) ≡ Is n) where
       pub functions-refused : (r : Refusal) → pastOf (many n (function names ps) s 7) ≡ Stopped r → Stopped r ≡ pastOf (code names ps s 0)
       unfolding code targets
       functions-refused r e = rw (after-head, functions-is s 5 some, past-refuse (many n (function names ps) s 7) e)

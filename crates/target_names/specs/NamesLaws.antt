@@ -3,53 +3,36 @@ use Prim.Native.Nat.{ℕ, zero, suc, _+_, _-_, _≤_, _<_}
 use mathlib.Core.Path.{_≡_, refl}
 use mathlib.Core.List.{List}
 use native.Mathlib.Omega.{arith}
-use native.Mathlib.Numerals.{add-one}
-use borrow.Author.Tests.{eq-eqb, ne-eqb}
 use lib.ListN.{length, getD}
 use Rattle.parsing.specs.declared.Refusal.{Refusal}
 use Rattle.parsing.specs.declared.Checked.{Checked}
 use Rattle.parsing.specs.declared.Checked.the-variants.{Accepted, Refused}
-use Rattle.parsing.specs.Parser.{refusal}
+use Rattle.parsing.specs.Parser.{Verdict, accepted, refused, verdictOf}
 use Rattle.target_tags.specs.declared.tag.Tag.{Tag}
 use Rattle.target_tags.specs.declared.tag.Tag.the-variants.{Jump}
 use Rattle.target_tags.specs.Tag.{tagAt}
 use Rattle.target_tags.specs.ViewLaws.{View, isConstant, isCopy, isDifference, isJump, isResume, isHandle, isBranch, isContinuation, isBoth, isRefused, seen}
-use Rattle.target_names.specs.Names.{_andAlso_, reads, arity, values, bound, entryKinds}
-
-pub refused-first : {c : Checked} (d : Checked) (r : Refusal) → c ≡ Refused r → Refused r ≡ _andAlso_ c d
-refused-first d r e = rw e
-
-module _ (ps : List ℕ) (place g n m : ℕ) (is : m ≡ getD ps g 0) where
-  pub arity-right : n ≡ m → Accepted ≡ arity ps place g n
-  unfolding arity
-  arity-right e = rw (← is, eq-eqb n m e)
-
-  pub arity-wrong : (n ≡ m → ⊥) → Refused (refusal 10 place) ≡ arity ps place g n
-  unfolding arity
-  arity-wrong e = rw (← is, ne-eqb n m e)
+use Rattle.target_slots.specs.Slots.{reads}
+use Rattle.target_names.specs.Names.{values, namesOf}
 
 -- The first of several values, and the others.
-module _ (ks s : List ℕ) (at x : ℕ) (is : x ≡ getD s at 0) where
-  pub values-stop : (n : ℕ) (r : Refusal) → 0 < n → reads ks 1 at x ≡ Refused r → Refused r ≡ values ks s at n
+module _ (ks s : List ℕ) (at x : ℕ) (is : x ≡ getD s at 0) {c : Checked} (judged : verdictOf c ≡ reads ks 1 at x) where
+  pub values-stop : (n : ℕ) (r : Refusal) → 0 < n → c ≡ Refused r → refused (r .number) (r .place) ≡ values ks s at n
   values-stop zero r h e = absurd (omega arith)
-  values-stop (suc n) r h e = rw (← is, e)
+  values-stop (suc n) r h e = rw (← is, ← judged, e)
 
-  pub values-on : (n : ℕ) → 0 < n → reads ks 1 at x ≡ Accepted → values ks s (at + 1) (n - 1) ≡ values ks s at n
+  pub values-on : (n : ℕ) → 0 < n → c ≡ Accepted → values ks s (at + 1) (n - 1) ≡ values ks s at n
   values-on zero h e = absurd (omega arith)
   values-on (suc n) h e =
       let p : suc n - 1 ≡ n = omega arith in
-      rw (← is, e, p)
+      rw (← is, ← judged, e, p)
 
-pub values-none : (ks s : List ℕ) (at n : ℕ) → n ≤ 0 → Accepted ≡ values ks s at n
+pub values-none : (ks s : List ℕ) (at n : ℕ) → n ≤ 0 → accepted ≡ values ks s at n
 values-none ks s at zero h = refl
 values-none ks s at (suc n) h = absurd (omega arith)
 
-pub also : {a b c d : Checked} → a ≡ c → b ≡ d → _andAlso_ a b ≡ _andAlso_ c d
-also p q = rw (p, q)
-
-pub entry-more : (n : ℕ) (ks new : List ℕ) → ks ≡ entryKinds n → new ≡ bound ks (2 + n) 1 → new ≡ entryKinds (n + 1)
-unfolding entryKinds
-entry-more n ks new e f = rw (f, e, add-one n)
+pub names-by-tag : (ps ks s : List ℕ) (at : ℕ) {t u : Tag} {v : Verdict} → t ≡ u → v ≡ namesOf ps ks s at u → v ≡ namesOf ps ks s at t
+names-by-tag ps ks s at e f = rw e f
 
 pub jump-fits : (s : List ℕ) (at g k h n next : ℕ) (t : Tag) → t ≡ tagAt s at → t ≡ Jump g k h n next → at + 6 + n ≤ length s
 jump-fits s at g k h n next t is e = go (seen s at t is) e

@@ -3,9 +3,9 @@ use Prim.Native.Nat.{ℕ, _≤_}
 use mathlib.Core.Path.{_≡_}
 use mathlib.Core.List.{List}
 use Rattle.target_tags.specs.declared.tag.Tag.{Tag}
-use Rattle.target_tags.specs.Tag.{tagAt}
+use Rattle.target_tags.specs.Tag.{fileLimit, tagAt}
 
 -- The node stands at this offset of a file within its limit.
 pub record Stands (s : List ℕ) (at : ℕ) (t : Tag) : Type 0 where
-  pub small : at ≤ 65535
+  pub small : at ≤ fileLimit
   pub is : t ≡ tagAt s at

@@ -1,73 +1,28 @@
 // The names in a node: refusals 9, 10, 11 and 13.
 use casts::byte_number;
 use parsing::Checked;
-use parsing::Refusal;
+use parsing::or_else;
 use parsing::refusals;
+use parsing::refused_unless;
+use target_slots::slots::binds_slot;
+use target_slots::slots::differs;
+use target_slots::slots::reads_slot;
 use target_tags::tag::MAX_SLOTS;
 use target_tags::tag::Tag;
 ghost use mathlib.Core.Path.{_≡_};
 ghost use lib.ListN.{length, getD};
 ghost use Prim.Native.Nat.{_+_, _≤_};
+ghost use Rattle.parsing.specs.Parser.{orElse, verdictOf};
+ghost use Rattle.target_tags.specs.Tag.{fileLimit};
+ghost use Rattle.target_slots.specs.Slots.{binds, reads};
 ghost use Rattle.target_names.specs.Standing.{Stands};
-ghost use Rattle.target_names.specs.Names.{_andAlso_, jumpNames, continuationWithHandlerNames, binds, reads, differ, function, arity, values, namesOf, judged, bound, entryKinds};
-
-fn refused(number: u8, place: usize) -> Checked
-    ensures { λ r. ⌜ r ≡ Checked.Refused (record { number = number; place = place }) ⌝ }
-{
-    Checked::Refused(Refusal { number, place })
-}
-
-// The first refusal of two names.
-fn and_also(first: Checked, second: Checked) -> Checked
-    ensures { λ r. ⌜ r ≡ _andAlso_ first second ⌝ }
-{
-    match first {
-        Checked::Accepted => second,
-        Checked::Refused(r) => Checked::Refused(r),
-    }
-}
-
-// A slot that is bound.
-fn binds_slot(slot: usize, place: usize) -> Checked
-    ensures { λ r. ⌜ r ≡ binds place slot ⌝ }
-{
-    if slot < MAX_SLOTS {
-        return Checked::Accepted;
-    }
-    refused(refusals::WRONG_SLOT, place)
-}
-
-// A slot that is read as one of a kind.
-fn reads_slot(kinds: [u8; MAX_SLOTS], kind: u8, slot: usize, at: usize) -> Checked
-    ensures { λ r. ⌜ r ≡ reads kinds kind at slot ⌝ }
-{
-    if slot < MAX_SLOTS {
-        if kinds[slot] == kind {
-            return Checked::Accepted;
-        }
-        return refused(refusals::UNBOUND_SLOT, at);
-    }
-    refused(refusals::WRONG_SLOT, at)
-}
-
-// The two slots of tag 9.
-fn differs(slot: usize, handler: usize, place: usize) -> Checked
-    ensures { λ r. ⌜ r ≡ differ place slot handler ⌝ }
-{
-    if slot == handler {
-        return refused(refusals::WRONG_SLOT, place);
-    }
-    Checked::Accepted
-}
+ghost use Rattle.target_names.specs.Names.{function, arity, values, jumpNames, continuationWithHandlerNames, namesOf, judged};
 
 // The function of a jump, among functions with these numbers of parameters.
 fn names_function(params: &[u8], number: usize, place: usize) -> Checked
-    ensures { λ r. ⌜ r ≡ function (now (params .entry)) place number ⌝ }
+    ensures { λ r. ⌜ verdictOf r ≡ function (now (params .entry)) place number ⌝ }
 {
-    if number < params.len() {
-        return Checked::Accepted;
-    }
-    refused(refusals::MISSING_FUNCTION, place)
+    refused_unless(number < params.len(), refusals::MISSING_FUNCTION, place)
 }
 
 fn params_of(params: &[u8], number: usize) -> usize
@@ -81,18 +36,19 @@ fn params_of(params: &[u8], number: usize) -> usize
 
 // The count of a jump's values.
 fn counts(params: &[u8], number: usize, count: usize, place: usize) -> Checked
-    ensures { λ r. ⌜ r ≡ arity (now (params .entry)) place number count ⌝ }
+    ensures { λ r. ⌜ verdictOf r ≡ arity (now (params .entry)) place number count ⌝ }
 {
-    if count == params_of(params, number) {
-        return Checked::Accepted;
-    }
-    refused(refusals::CALLEE_ARITY, place)
+    refused_unless(
+        count == params_of(params, number),
+        refusals::CALLEE_ARITY,
+        place,
+    )
 }
 
 // The values of a jump.
 fn reads_values(file: &[u8], kinds: [u8; MAX_SLOTS], start: usize, count: usize) -> Checked
     requires { ⌜ start + count ≤ length (now file) ⌝ }
-    ensures { λ r. ⌜ r ≡ values kinds (now (file .entry)) start count ⌝ }
+    ensures { λ r. ⌜ verdictOf r ≡ values kinds (now (file .entry)) start count ⌝ }
 {
     let mut at = start;
     let mut left = count;
@@ -110,9 +66,34 @@ fn reads_values(file: &[u8], kinds: [u8; MAX_SLOTS], start: usize, count: usize)
     Checked::Accepted
 }
 
-// The names of a jump, in reading order.
+// The names of tag 2.
+fn names_copy(kinds: [u8; MAX_SLOTS], at: usize, slot: usize, from: usize) -> Checked
+    requires { ⌜ at ≤ fileLimit ⌝ }
+    ensures { λ r. ⌜ verdictOf r ≡ orElse (binds (at + 1) slot) (reads kinds 1 (at + 2) from) ⌝ }
+{
+    or_else(binds_slot(slot, at + 1), reads_slot(kinds, 1, from, at + 2))
+}
+
+// The names of tag 3.
+fn names_difference(
+    kinds: [u8; MAX_SLOTS],
+    at: usize,
+    slot: usize,
+    left: usize,
+    right: usize,
+) -> Checked
+    requires { ⌜ at ≤ fileLimit ⌝ }
+    ensures { λ r. ⌜ verdictOf r ≡ orElse (binds (at + 1) slot) (orElse (reads kinds 1 (at + 2) left) (reads kinds 1 (at + 3) right)) ⌝ }
+{
+    let read = or_else(
+        reads_slot(kinds, 1, left, at + 2),
+        reads_slot(kinds, 1, right, at + 3),
+    );
+    or_else(binds_slot(slot, at + 1), read)
+}
+
+// The names of a jump before its values, in reading order.
 fn names_jump(
-    file: &[u8],
     params: &[u8],
     kinds: [u8; MAX_SLOTS],
     at: usize,
@@ -121,19 +102,45 @@ fn names_jump(
     handler: usize,
     count: usize,
 ) -> Checked
-    requires { ⌜ at + 6 + count ≤ length (now file) ⌝ }
-    ensures { λ r. ⌜ r ≡ jumpNames (now (params .entry)) kinds (now (file .entry)) at number continuation handler count ⌝ }
+    requires { ⌜ at ≤ fileLimit ⌝ }
+    ensures { λ r. ⌜ verdictOf r ≡ jumpNames (now (params .entry)) kinds at number continuation handler count ⌝ }
 {
     let goal = names_function(params, number, at + 1);
-    let ends = and_also(
+    let ends = or_else(
         reads_slot(kinds, 2, continuation, at + 3),
         reads_slot(kinds, 3, handler, at + 4),
     );
-    let sent = and_also(
-        counts(params, number, count, at + 5),
-        reads_values(file, kinds, at + 6, count),
-    );
-    and_also(goal, and_also(ends, sent))
+    or_else(or_else(goal, ends), counts(params, number, count, at + 5))
+}
+
+// The names of tag 5.
+fn names_resume(kinds: [u8; MAX_SLOTS], at: usize, continuation: usize, value: usize) -> Checked
+    requires { ⌜ at ≤ fileLimit ⌝ }
+    ensures { λ r. ⌜ verdictOf r ≡ orElse (reads kinds 2 (at + 1) continuation) (reads kinds 1 (at + 2) value) ⌝ }
+{
+    or_else(
+        reads_slot(kinds, 2, continuation, at + 1),
+        reads_slot(kinds, 1, value, at + 2),
+    )
+}
+
+// The names of tag 7.
+fn names_branch(kinds: [u8; MAX_SLOTS], at: usize, left: usize, right: usize) -> Checked
+    requires { ⌜ at ≤ fileLimit ⌝ }
+    ensures { λ r. ⌜ verdictOf r ≡ orElse (reads kinds 1 (at + 1) left) (reads kinds 1 (at + 2) right) ⌝ }
+{
+    or_else(
+        reads_slot(kinds, 1, left, at + 1),
+        reads_slot(kinds, 1, right, at + 2),
+    )
+}
+
+// The names of tag 8.
+fn names_continuation(at: usize, slot: usize, parameter: usize) -> Checked
+    requires { ⌜ at ≤ fileLimit ⌝ }
+    ensures { λ r. ⌜ verdictOf r ≡ orElse (binds (at + 1) slot) (binds (at + 2) parameter) ⌝ }
+{
+    or_else(binds_slot(slot, at + 1), binds_slot(parameter, at + 2))
 }
 
 // The names of tag 9, in reading order.
@@ -143,73 +150,52 @@ fn names_continuation_with_handler(
     parameter: usize,
     handler: usize,
 ) -> Checked
-    requires { ⌜ at ≤ 65535 ⌝ }
-    ensures { λ r. ⌜ r ≡ continuationWithHandlerNames at slot parameter handler ⌝ }
+    requires { ⌜ at ≤ fileLimit ⌝ }
+    ensures { λ r. ⌜ verdictOf r ≡ continuationWithHandlerNames at slot parameter handler ⌝ }
 {
-    let made = and_also(binds_slot(slot, at + 1), binds_slot(parameter, at + 2));
-    and_also(
+    let made = names_continuation(at, slot, parameter);
+    or_else(
         made,
-        and_also(binds_slot(handler, at + 3), differs(slot, handler, at + 3)),
+        or_else(binds_slot(handler, at + 3), differs(slot, handler, at + 3)),
     )
 }
 
 // The names of the node that stands at an offset.
 fn names_of(file: &[u8], params: &[u8], kinds: [u8; MAX_SLOTS], at: usize, tag: Tag) -> Checked
     requires { ⌜ Stands (now file) at tag ⌝ }
-    ensures { λ r. ⌜ r ≡ namesOf (now (params .entry)) kinds (now (file .entry)) at tag ⌝ }
+    ensures { λ r. ⌜ verdictOf r ≡ namesOf (now (params .entry)) kinds (now (file .entry)) at tag ⌝ }
 {
     match tag {
         Tag::Constant { slot, .. } => binds_slot(slot, at + 1),
-        Tag::Copy { slot, from, .. } => and_also(
-            binds_slot(slot, at + 1),
-            reads_slot(kinds, 1, from, at + 2),
-        ),
+        Tag::Copy { slot, from, .. } => names_copy(kinds, at, slot, from),
         Tag::Difference {
             slot,
             left,
             right,
             ..
-        } => and_also(
-            binds_slot(slot, at + 1),
-            and_also(
-                reads_slot(kinds, 1, left, at + 2),
-                reads_slot(kinds, 1, right, at + 3),
-            ),
-        ),
+        } => names_difference(kinds, at, slot, left, right),
         Tag::Jump {
             function,
             continuation,
             handler,
             count,
             ..
-        } => names_jump(
-            file,
-            params,
-            kinds,
-            at,
-            function,
-            continuation,
-            handler,
-            count,
+        } => or_else(
+            names_jump(params, kinds, at, function, continuation, handler, count),
+            reads_values(file, kinds, at + 6, count),
         ),
         Tag::Resume {
             continuation,
             value,
             ..
-        } => and_also(
-            reads_slot(kinds, 2, continuation, at + 1),
-            reads_slot(kinds, 1, value, at + 2),
-        ),
+        } => names_resume(kinds, at, continuation, value),
         Tag::Handle { handler, .. } => reads_slot(kinds, 3, handler, at + 1),
-        Tag::Branch { left, right, .. } => and_also(
-            reads_slot(kinds, 1, left, at + 1),
-            reads_slot(kinds, 1, right, at + 2),
-        ),
+        Tag::Branch { left, right, .. } => names_branch(kinds, at, left, right),
         Tag::Continuation {
             slot,
             parameter,
             ..
-        } => and_also(binds_slot(slot, at + 1), binds_slot(parameter, at + 2)),
+        } => names_continuation(at, slot, parameter),
         Tag::ContinuationWithHandler {
             slot,
             parameter,
@@ -230,37 +216,10 @@ pub fn judge(
     tag: Tag,
 ) -> Checked
     requires { ⌜ Stands (now file) at tag ⌝ }
-    ensures { λ r. ⌜ r ≡ judged names (now (params .entry)) kinds (now (file .entry)) at tag ⌝ }
+    ensures { λ r. ⌜ verdictOf r ≡ judged names (now (params .entry)) kinds (now (file .entry)) at tag ⌝ }
 {
     if names {
         return names_of(file, params, kinds, at, tag);
     }
     Checked::Accepted
-}
-
-// The kinds with a slot bound.
-pub fn bind(kinds: [u8; MAX_SLOTS], slot: usize, kind: u8) -> [u8; MAX_SLOTS]
-    ensures { λ r. ⌜ r ≡ bound kinds slot kind ⌝ }
-{
-    let mut new = kinds;
-    if slot < MAX_SLOTS {
-        new[slot] = kind;
-    }
-    new
-}
-
-// The kinds with which a function begins.
-pub fn entry_kinds(params: usize) -> [u8; MAX_SLOTS]
-    requires { ⌜ params ≤ 32 ⌝ }
-    ensures { λ r. ⌜ r ≡ entryKinds params ⌝ }
-{
-    let mut kinds = [0u8; MAX_SLOTS];
-    kinds[0] = 2;
-    kinds[1] = 3;
-    let mut i = 0;
-    while i < params {
-        kinds = bind(kinds, 2 + i, 1);
-        i += 1;
-    }
-    kinds
 }

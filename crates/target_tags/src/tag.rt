@@ -12,6 +12,12 @@ ghost use Rattle.target_tags.specs.Tag.{tagAt, constantAt, copyAt, diffe
 // "Slots are 0 to 35."
 pub const MAX_SLOTS: usize = 36;
 
+// "15 file above its limit (.. translated 65,535 ..)."
+pub const FILE_LIMIT: usize = 65535;
+
+// "Parameter count (0 to 32)": values of a jump at most.
+pub const MAX_PARAMETERS: usize = 32;
+
 // A node as it stands in the file: its fields, and the offset past them. Its names are not judged here.
 pub enum Tag {
     Constant {

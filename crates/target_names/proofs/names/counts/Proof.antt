@@ -1,24 +1,23 @@
-use Rattle.target_names.specs.NamesLaws.{arity-right, arity-wrong}
-use mathlib.Core.Path.{_∙_}
+use mathlib.Core.Path.{ap, _∙_}
+use Prim.Native.Nat.{ℕ}
+use lib.Dec.{eqb}
+use Rattle.parsing.specs.Parser.{refusedUnless}
+use Rattle.target_names.specs.Names.{arity}
 use borrow.Author.Needs.{needs}
 use Rattle.target_names.proofs.names.counts.Statement.{statement}
 use Rattle.target_names.proofs.names.counts.Tie as tie
-use Rattle.target_names.proofs.names.counts.Reads as reads
-use Rattle.target_names.proofs.names.counts.Lts as lts
-use Rattle.target_names.proofs.names.params_of.Reads as params-of-reads
-use Rattle.target_names.proofs.names.refused.Reads as refused-reads
 
 params-of-requires : tie.Need-params-of-requires
 params-of-requires c κs = search needs
 
+refused-unless-requires : tie.Need-refused-unless-requires
+refused-unless-requires c κs = search needs
+
 returns : tie.Need-returns
-returns c = arity-right _ _ _ _ _ (c .before .params-of .ensures) (c .if1 .taken)
-
-refused-requires : tie.Need-refused-requires
-refused-requires c κs = search needs
-
-returns-2 : tie.Need-returns-2
-returns-2 c = c .refused .ensures ∙ arity-wrong _ _ _ _ _ (c .before .before .params-of .ensures) (c .before .if1 .left)
+unfolding arity
+returns c =
+    let entry = c .before .before .before in
+    c .refused-unless .ensures ∙ ap (λ (m : ℕ). refusedUnless (eqb (entry .args .count) m) 10 (entry .args .place)) (c .before .params-of .ensures)
 
 pub counts-spec : {M : Type 1} → statement M
-counts-spec = tie.close (tie.spec params-of-requires returns refused-requires returns-2)
+counts-spec = tie.close (tie.spec params-of-requires refused-unless-requires returns)

@@ -1,16 +1,8 @@
-use mathlib.Core.Path.{_∙_}
-use Rattle.target_names.specs.NamesLaws.{also}
+use Rattle.parsing.specs.VerdictLaws.{joined-answers}
 use Rattle.target_names.specs.Names.{jumpNames}
 use borrow.Author.Needs.{needs}
 use Rattle.target_names.proofs.names.names_jump.Statement.{statement}
 use Rattle.target_names.proofs.names.names_jump.Tie as tie
-use Rattle.target_names.proofs.names.names_jump.Reads as reads
-use Rattle.target_names.proofs.names.names_jump.Lts as lts
-use Rattle.target_names.proofs.names.and_also.Reads as and-also-reads
-use Rattle.target_names.proofs.names.counts.Reads as counts-reads
-use Rattle.target_names.proofs.names.names_function.Reads as names-function-reads
-use Rattle.target_names.proofs.names.reads_slot.Reads as reads-slot-reads
-use Rattle.target_names.proofs.names.reads_values.Reads as reads-values-reads
 
 add-names-function : tie.Need-add-names-function
 add-names-function c = search needs
@@ -30,8 +22,11 @@ add-reads-slot-2 c = search needs
 reads-slot-requires-2 : tie.Need-reads-slot-requires-2
 reads-slot-requires-2 c κs = search needs
 
-and-also-requires : tie.Need-and-also-requires
-and-also-requires c κs = search needs
+or-else-requires : tie.Need-or-else-requires
+or-else-requires c κs = search needs
+
+or-else-requires-2 : tie.Need-or-else-requires-2
+or-else-requires-2 c κs = search needs
 
 add-counts : tie.Need-add-counts
 add-counts c = search needs
@@ -39,34 +34,22 @@ add-counts c = search needs
 counts-requires : tie.Need-counts-requires
 counts-requires c κs = search needs
 
-add-reads-values : tie.Need-add-reads-values
-add-reads-values c = search needs
-
-reads-values-requires : tie.Need-reads-values-requires
-reads-values-requires c κs = search needs
-
-and-also-requires-2 : tie.Need-and-also-requires-2
-and-also-requires-2 c κs = search needs
-
-and-also-requires-3 : tie.Need-and-also-requires-3
-and-also-requires-3 c κs = search needs
-
-and-also-requires-4 : tie.Need-and-also-requires-4
-and-also-requires-4 c κs = search needs
+or-else-requires-3 : tie.Need-or-else-requires-3
+or-else-requires-3 c κs = search needs
 
 returns : tie.Need-returns
 unfolding jumpNames
 returns c =
-    let at-and-also2 = c .before .before in
-    let at-reads-values = at-and-also2 .before in
-    let at-counts = at-reads-values .before in
-    let at-and-also = at-counts .before in
-    let at-reads-slot2 = at-and-also .before in
+    let at-counts = c .before in
+    let at-or-else2 = at-counts .before in
+    let at-or-else = at-or-else2 .before in
+    let at-reads-slot2 = at-or-else .before in
     let at-reads-slot = at-reads-slot2 .before in
     let at-names-function = at-reads-slot .before in
-    c .and-also4 .ensures ∙ also (at-names-function .names-function .ensures)
-    (c .before .and-also3 .ensures ∙ also (at-and-also .and-also .ensures ∙ also (at-reads-slot .reads-slot .ensures) (at-reads-slot2 .reads-slot2 .ensures))
-    (at-and-also2 .and-also2 .ensures ∙ also (at-counts .counts .ensures) (at-reads-values .reads-values .ensures)))
+    let ends = joined-answers (at-reads-slot .reads-slot .result) (at-reads-slot2 .reads-slot2 .result) (at-or-else .or-else .result) (at-reads-slot .reads-slot .ensures) (at-reads-slot2 .reads-slot2 .ensures) (at-or-else .or-else .ensures) in
+    joined-answers (at-or-else2 .or-else2 .result) (at-counts .counts .result) (c .or-else3 .result)
+    (joined-answers (at-names-function .names-function .result) (at-or-else .or-else .result) (at-or-else2 .or-else2 .result) (at-names-function .names-function .ensures) ends (at-or-else2 .or-else2 .ensures))
+    (at-counts .counts .ensures) (c .or-else3 .ensures)
 
 pub names-jump-spec : {M : Type 1} → statement M
 names-jump-spec =
@@ -78,12 +61,9 @@ names-jump-spec =
     reads-slot-requires
     add-reads-slot-2
     reads-slot-requires-2
-    and-also-requires
+    or-else-requires
+    or-else-requires-2
     add-counts
     counts-requires
-    add-reads-values
-    reads-values-requires
-    and-also-requires-2
-    and-also-requires-3
-    and-also-requires-4
+    or-else-requires-3
     returns)

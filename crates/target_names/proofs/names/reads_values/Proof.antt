@@ -1,16 +1,12 @@
 use Rattle.target_names.specs.NamesLaws.{values-stop, values-on, values-none}
 use native.Mathlib.Omega.{arith}
-use mathlib.Core.Path.{_≡_, refl, _∙_, sym}
+use mathlib.Core.Path.{_≡_, refl, _∙_}
 use Prim.Native.Nat.{_+_, _≤_}
 use lib.ListN.{length}
 use borrow.Author.Needs.{needs}
 use Rattle.target_names.specs.Names.{values}
 use Rattle.target_names.proofs.names.reads_values.Statement.{statement}
 use Rattle.target_names.proofs.names.reads_values.Tie as tie
-use Rattle.target_names.proofs.names.reads_values.Reads as reads
-use Rattle.target_names.proofs.names.reads_values.Lts as lts
-use Rattle.target_names.proofs.names.reads_slot.Reads as reads-slot-reads
-use Rattle.casts.proofs.byte_number.Reads as byte-number-reads
 
 abbrev Inv-loop : tie.InvT-loop
 Inv-loop file kinds start count at₀ left₀ at left =
@@ -43,7 +39,7 @@ returns c =
     let at-byte-number = at-reads-slot .before in
     let at-loop-test = at-byte-number .before .before in
     let at-loop = at-loop-test .before in
-    values-stop _ _ _ _ (at-byte-number .byte-number .ensures .0) _ _ (at-loop-test .loop-test .taken) (sym (at-reads-slot .reads-slot .ensures) ∙ c .before .r .given .1) ∙ at-loop .loop .inv .1
+    values-stop _ _ _ _ (at-byte-number .byte-number .ensures .0) (at-reads-slot .reads-slot .ensures) _ _ (at-loop-test .loop-test .taken) (c .before .r .given .1) ∙ at-loop .loop .inv .1
 
 enum-told : tie.Need-enum-told Inv-loop μ-loop
 enum-told c = search needs
@@ -60,7 +56,7 @@ loop-again c =
     let at-byte-number = at-reads-slot .before in
     let at-loop-test = at-byte-number .before .before in
     let at-loop = at-loop-test .before in
-    (omega arith, values-on _ _ _ _ (at-byte-number .byte-number .ensures .0) _ (at-loop-test .loop-test .taken) (sym (at-reads-slot .reads-slot .ensures) ∙ c .enum-told .given .1) ∙ at-loop .loop .inv .1)
+    (omega arith, values-on _ _ _ _ (at-byte-number .byte-number .ensures .0) (at-reads-slot .reads-slot .ensures) _ (at-loop-test .loop-test .taken) (c .enum-told .given .1) ∙ at-loop .loop .inv .1)
 
 returns-2 : tie.Need-returns-2 Inv-loop μ-loop
 returns-2 c = values-none _ _ _ _ (c .loop-test .left) ∙ c .before .loop .inv .1

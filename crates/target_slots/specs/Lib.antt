@@ -1,0 +1,4 @@
+-- The slots of translated files. Definitions: Slots.
+pub mod Slots
+-- Laws.
+pub mod SlotsLaws

@@ -1,0 +1,65 @@
+// A slot that is bound or read (refusals 11 and 13), and the kinds of slots.
+use parsing::Checked;
+use parsing::Refusal;
+use parsing::refusals;
+use parsing::refused_unless;
+use target_tags::tag::MAX_SLOTS;
+ghost use mathlib.Core.Path.{_≡_};
+ghost use Prim.Native.Nat.{_≤_};
+ghost use Rattle.parsing.specs.Parser.{verdictOf};
+ghost use Rattle.target_tags.specs.Tag.{maxParameters};
+ghost use Rattle.target_slots.specs.Slots.{binds, reads, differ, bound, entryKinds};
+
+// A slot that is bound.
+pub fn binds_slot(slot: usize, place: usize) -> Checked
+    ensures { λ r. ⌜ verdictOf r ≡ binds place slot ⌝ }
+{
+    refused_unless(slot < MAX_SLOTS, refusals::WRONG_SLOT, place)
+}
+
+// A slot that is read as one of a kind.
+pub fn reads_slot(kinds: [u8; MAX_SLOTS], kind: u8, slot: usize, place: usize) -> Checked
+    ensures { λ r. ⌜ verdictOf r ≡ reads kinds kind place slot ⌝ }
+{
+    if slot < MAX_SLOTS {
+        return refused_unless(kinds[slot] == kind, refusals::UNBOUND_SLOT, place);
+    }
+    Checked::Refused(Refusal {
+        number: refusals::WRONG_SLOT,
+        place,
+    })
+}
+
+// The two slots of tag 9.
+pub fn differs(slot: usize, handler: usize, place: usize) -> Checked
+    ensures { λ r. ⌜ verdictOf r ≡ differ place slot handler ⌝ }
+{
+    refused_unless(slot != handler, refusals::WRONG_SLOT, place)
+}
+
+// The kinds with a slot bound.
+pub fn bind(kinds: [u8; MAX_SLOTS], slot: usize, kind: u8) -> [u8; MAX_SLOTS]
+    ensures { λ r. ⌜ r ≡ bound kinds slot kind ⌝ }
+{
+    let mut new = kinds;
+    if slot < MAX_SLOTS {
+        new[slot] = kind;
+    }
+    new
+}
+
+// The kinds with which a function begins.
+pub fn entry_kinds(params: usize) -> [u8; MAX_SLOTS]
+    requires { ⌜ params ≤ maxParameters ⌝ }
+    ensures { λ r. ⌜ r ≡ entryKinds params ⌝ }
+{
+    let mut kinds = [0u8; MAX_SLOTS];
+    kinds[0] = 2;
+    kinds[1] = 3;
+    let mut i = 0;
+    while i < params {
+        kinds = bind(kinds, 2 + i, 1);
+        i += 1;
+    }
+    kinds
+}
