@@ -11,7 +11,7 @@ use lib.ListN.{length, getD, take, drop, length-append}
 use lib.Seq.{drop-cons}
 use Rattle.parsing.specs.declared.Scan.the-variants.{Past}
 use Rattle.parsing.specs.Parser.{refusal, Parsed, read, refuse, Parser, andThen, joined, pastOf}
-use Rattle.parsing.specs.Fields.{cut, byte, marked, version, head, ended}
+use Rattle.parsing.specs.Fields.{cut, marked, version, head, ended}
 use Rattle.parsing.specs.ParserLaws.{impossible, sequence, ReadMany, none, one}
 
 -- The bytes w stand from `at` on, up to `next`.

@@ -29,7 +29,7 @@ module _ (a b c d : ℕ) (a-byte : a < 256) (b-byte : b < 256) (c-byte : c < 256
   fits : Fits w32 bits
   fits = record { fits = omega arith }
 
-  value-back : valueBytes (valueOf a b c d) ≡ a ∷ b ∷ c ∷ d ∷ []
+  pub value-back : valueBytes (valueOf a b c d) ≡ a ∷ b ∷ c ∷ d ∷ []
   unfolding valueOf
   value-back =
       rw (ofZ-toZ {w = w32} {n = bits} fits)
@@ -38,7 +38,7 @@ module _ (a b c d : ℕ) (a-byte : a < 256) (b-byte : b < 256) (c-byte : c < 256
       go : {x y z w : ℕ} → x ≡ a → y ≡ b → z ≡ c → w ≡ d → x ∷ y ∷ z ∷ w ∷ [] ≡ a ∷ b ∷ c ∷ d ∷ []
       go p q r t = cc
 
-  value-range : SFits w32 (valueOf a b c d)
+  pub value-range : SFits w32 (valueOf a b c d)
   unfolding valueOf
   value-range = sfits-toZ {w = w32} {n = bits} fits
 

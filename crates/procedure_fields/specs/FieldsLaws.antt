@@ -1,18 +1,22 @@
 -- What stands in the file where an operation has a number: the laws of the functions that read its fields.
 use Prim.Native.Nat.{ℕ, _+_, _≤_, _<_}
 use native.Mathlib.Omega.{arith}
-use mathlib.Core.Path.{_≡_, refl, subst}
+use mathlib.Core.Path.{_≡_, refl, sym, ap, _∙_, subst}
 use mathlib.Core.Bool.{cond}
 use mathlib.Core.List.{List}
 use lib.Dec.{eqb}
-use lib.ListN.{length, getD}
+use lib.IntN.{ℤ}
+use lib.ListN.{length, getD, drop}
+use lib.Seq.{getD-take, getD-drop}
 use Rattle.parsing.specs.Fields.{valueAt}
 use Rattle.procedure_operations.specs.declared.operation.Operation.{Operation}
 use Rattle.procedure_operations.specs.declared.operation.Operation.the-variants.{Constant, Copy, Difference, Call, Goto, Return, Branch, Raise, Refused}
-use Rattle.procedure_operations.specs.Operation.{operationAt}
+use Rattle.procedure_operations.specs.Operation.{operationAt, argumentsAt}
+use Rattle.procedure_operations.specs.Ranges.{NumbersInRange}
 use Rattle.procedure_operations.specs.OperationLaws.{op-constant, op-copy, op-difference, op-call, op-goto, op-return, op-branch, op-raise}
 use Rattle.procedure_operations.specs.ViewLaws.{View, isConstant, isCopy, isDifference, isCall, isGoto, isReturn, isBranch, isRaise, isRefused, view}
-use Rattle.procedure_fields.specs.Number.{numberOf}
+use Rattle.procedure_fields.specs.Number.{numberOf, countOf}
+use Rattle.procedure_fields.specs.NumberLaws.{argument-in-range}
 
 -- How many bytes an operation with this number takes.
 abbrev width : List ℕ → ℕ → ℕ → ℕ
@@ -64,29 +68,53 @@ module _ (s : List ℕ) (at : ℕ) where
   pub number-room : 1 ≤ numberOf (operationAt s at) → at < length s
   number-room h = by-room (view s at) h
 
+  -- The numbers that an operation of a known form names.
+  pub in-range : NumbersInRange s at (operationAt s at) → {o : Operation} → operationAt s at ≡ o → NumbersInRange s at o
+  in-range r e = subst (NumbersInRange s at) e r
+
   pub constant-room : numberOf (operationAt s at) ≡ 1 → at + 6 ≤ length s
   constant-room e = written 1 e (omega arith) .room
 
-  pub constant-fields : numberOf (operationAt s at) ≡ 1 → operationAt s at ≡ Constant (getD s (at + 1) 0) (valueAt s (at + 2)) (at + 6)
-  constant-fields e = op-constant s at (written 1 e (omega arith) .number) (constant-room e)
+  pub constant-bytes : numberOf (operationAt s at) ≡ 1 → operationAt s at ≡ Constant (getD s (at + 1) 0) (valueAt s (at + 2)) (at + 6)
+  constant-bytes e = op-constant s at (written 1 e (omega arith) .number) (constant-room e)
+
+  pub constant-fields : {x : ℕ} {v : ℤ} → numberOf (operationAt s at) ≡ 1 → x ≡ getD s (at + 1) 0 → v ≡ valueAt s (at + 2)
+      → operationAt s at ≡ Constant x v (at + 6)
+  constant-fields e p q = rw (p, q) (constant-bytes e)
+
+  pub constant-value : {x : ℕ} → numberOf (operationAt s at) ≡ 1 → x ≡ getD s (at + 1) 0 → operationAt s at ≡ Constant x (valueAt s (at + 2)) (at + 2 + 4)
+  constant-value {x} e p =
+      let q : at + 6 ≡ at + 2 + 4 = omega arith in
+      constant-fields e p refl ∙ ap (Constant x (valueAt s (at + 2))) q
 
   pub copy-room : numberOf (operationAt s at) ≡ 2 → at + 3 ≤ length s
   copy-room e = written 2 e (omega arith) .room
 
-  pub copy-fields : numberOf (operationAt s at) ≡ 2 → operationAt s at ≡ Copy (getD s (at + 1) 0) (getD s (at + 2) 0) (at + 3)
-  copy-fields e = op-copy s at (written 2 e (omega arith) .number) (copy-room e)
+  pub copy-bytes : numberOf (operationAt s at) ≡ 2 → operationAt s at ≡ Copy (getD s (at + 1) 0) (getD s (at + 2) 0) (at + 3)
+  copy-bytes e = op-copy s at (written 2 e (omega arith) .number) (copy-room e)
+
+  pub copy-fields : {x y : ℕ} → numberOf (operationAt s at) ≡ 2 → x ≡ getD s (at + 1) 0 → y ≡ getD s (at + 2) 0 → operationAt s at ≡ Copy x y (at + 3)
+  copy-fields e p q = rw (p, q) (copy-bytes e)
 
   pub difference-room : numberOf (operationAt s at) ≡ 3 → at + 4 ≤ length s
   difference-room e = written 3 e (omega arith) .room
 
-  pub difference-fields : numberOf (operationAt s at) ≡ 3 → operationAt s at ≡ Difference (getD s (at + 1) 0) (getD s (at + 2) 0) (getD s (at + 3) 0) (at + 4)
-  difference-fields e = op-difference s at (written 3 e (omega arith) .number) (difference-room e)
+  pub difference-bytes : numberOf (operationAt s at) ≡ 3 → operationAt s at ≡ Difference (getD s (at + 1) 0) (getD s (at + 2) 0) (getD s (at + 3) 0) (at + 4)
+  difference-bytes e = op-difference s at (written 3 e (omega arith) .number) (difference-room e)
+
+  pub difference-fields : {x y z : ℕ} → numberOf (operationAt s at) ≡ 3 → x ≡ getD s (at + 1) 0 → y ≡ getD s (at + 2) 0 → z ≡ getD s (at + 3) 0
+      → operationAt s at ≡ Difference x y z (at + 4)
+  difference-fields e p q r = rw (p, q, r) (difference-bytes e)
 
   pub call-room : numberOf (operationAt s at) ≡ 4 → at + 4 + getD s (at + 3) 0 ≤ length s
   call-room e = omega (arith, written 4 e (omega arith) .room)
 
-  pub call-fields : numberOf (operationAt s at) ≡ 4 → operationAt s at ≡ Call (getD s (at + 1) 0) (getD s (at + 2) 0) (getD s (at + 3) 0) (at + 4 + getD s (at + 3) 0)
-  call-fields e = op-call s at (written 4 e (omega arith) .number) (call-room e)
+  pub call-bytes : numberOf (operationAt s at) ≡ 4 → operationAt s at ≡ Call (getD s (at + 1) 0) (getD s (at + 2) 0) (getD s (at + 3) 0) (at + 4 + getD s (at + 3) 0)
+  call-bytes e = op-call s at (written 4 e (omega arith) .number) (call-room e)
+
+  pub call-fields : {x g : ℕ} → numberOf (operationAt s at) ≡ 4 → x ≡ getD s (at + 1) 0 → g ≡ getD s (at + 2) 0
+      → operationAt s at ≡ Call x g (getD s (at + 3) 0) (at + 4 + getD s (at + 3) 0)
+  call-fields e p q = rw (p, q) (call-bytes e)
 
   pub goto-room : numberOf (operationAt s at) ≡ 5 → at + 2 ≤ length s
   goto-room e = written 5 e (omega arith) .room
@@ -97,17 +125,57 @@ module _ (s : List ℕ) (at : ℕ) where
   pub return-room : numberOf (operationAt s at) ≡ 6 → at + 2 ≤ length s
   return-room e = written 6 e (omega arith) .room
 
-  pub return-fields : numberOf (operationAt s at) ≡ 6 → operationAt s at ≡ Return (getD s (at + 1) 0) (at + 2)
-  return-fields e = op-return s at (written 6 e (omega arith) .number) (return-room e)
+  pub return-bytes : numberOf (operationAt s at) ≡ 6 → operationAt s at ≡ Return (getD s (at + 1) 0) (at + 2)
+  return-bytes e = op-return s at (written 6 e (omega arith) .number) (return-room e)
+
+  pub return-fields : {x : ℕ} → numberOf (operationAt s at) ≡ 6 → x ≡ getD s (at + 1) 0 → operationAt s at ≡ Return x (at + 2)
+  return-fields e p = rw (p) (return-bytes e)
 
   pub branch-room : numberOf (operationAt s at) ≡ 7 → at + 5 ≤ length s
   branch-room e = written 7 e (omega arith) .room
 
-  pub branch-fields : numberOf (operationAt s at) ≡ 7 → operationAt s at ≡ Branch (getD s (at + 1) 0) (getD s (at + 2) 0) (getD s (at + 3) 0) (getD s (at + 4) 0) (at + 5)
-  branch-fields e = op-branch s at (written 7 e (omega arith) .number) (branch-room e)
+  pub branch-bytes : numberOf (operationAt s at) ≡ 7 → operationAt s at ≡ Branch (getD s (at + 1) 0) (getD s (at + 2) 0) (getD s (at + 3) 0) (getD s (at + 4) 0) (at + 5)
+  branch-bytes e = op-branch s at (written 7 e (omega arith) .number) (branch-room e)
+
+  pub branch-fields : {y z : ℕ} → numberOf (operationAt s at) ≡ 7 → y ≡ getD s (at + 1) 0 → z ≡ getD s (at + 2) 0
+      → operationAt s at ≡ Branch y z (getD s (at + 3) 0) (getD s (at + 4) 0) (at + 5)
+  branch-fields e p q = rw (p, q) (branch-bytes e)
 
   pub raise-room : numberOf (operationAt s at) ≡ 8 → at + 1 ≤ length s
   raise-room e = written 8 e (omega arith) .room
 
   pub raise-fields : numberOf (operationAt s at) ≡ 8 → operationAt s at ≡ Raise (at + 1)
   raise-fields e = op-raise s at (written 8 e (omega arith) .number) (raise-room e)
+
+  -- Argument i of a call.
+  module _ (i : ℕ) (h : i < countOf (operationAt s at)) where
+    is-call : numberOf (operationAt s at) ≡ 4
+    unfolding numberOf countOf
+    is-call = by (operationAt s at) h
+      where
+        by : (o : Operation) → i < countOf o → numberOf o ≡ 4
+        by (Constant x v n) p = absurd (omega (arith, p))
+        by (Copy x y n) p = absurd (omega (arith, p))
+        by (Difference x y z n) p = absurd (omega (arith, p))
+        by (Call x g k n) p = refl
+        by (Goto l n) p = absurd (omega (arith, p))
+        by (Return x n) p = absurd (omega (arith, p))
+        by (Branch y z l m n) p = absurd (omega (arith, p))
+        by (Raise n) p = absurd (omega (arith, p))
+        by (Refused r) p = absurd (omega (arith, p))
+
+    count-is : countOf (operationAt s at) ≡ getD s (at + 3) 0
+    unfolding countOf
+    count-is = ap countOf (call-bytes is-call)
+
+    counted : i < getD s (at + 3) 0
+    counted = subst (λ (n : ℕ). i < n) count-is h
+
+    pub argument-room : at + 4 + i < length s
+    argument-room = omega (arith, call-room is-call, counted)
+
+    pub argument-byte : getD s (at + 4 + i) 0 ≡ getD (argumentsAt s at (countOf (operationAt s at))) i 0
+    argument-byte = sym (getD-take (countOf (operationAt s at)) (drop (at + 4) s) i 0 h ∙ getD-drop (at + 4) s i 0)
+
+    pub argument-range : NumbersInRange s at (operationAt s at) → getD s (at + 4 + i) 0 < 32
+    argument-range r = subst (λ (y : ℕ). y < 32) (sym argument-byte) (argument-in-range s at (operationAt s at) r i h)

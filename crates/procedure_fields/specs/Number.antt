@@ -1,4 +1,4 @@
--- The number of an operation, by its form (document 01, 'The procedure file').
+-- The number of an operation, by its form (document 01, 'The procedure file'), and the argument count of a call.
 use Prim.Native.Nat.{ℕ}
 use Rattle.procedure_operations.specs.declared.operation.Operation.{Operation}
 use Rattle.procedure_operations.specs.declared.operation.Operation.the-variants.{Constant, Copy, Difference, Call, Goto, Return, Branch, Raise, Refused}
@@ -14,3 +14,15 @@ numberOf (Return x n) = 6
 numberOf (Branch y z l m n) = 7
 numberOf (Raise n) = 8
 numberOf (Refused r) = 0
+
+-- 0 of an operation that is no call.
+unfoldable pub countOf : Operation → ℕ
+countOf (Constant x i n) = 0
+countOf (Copy x y n) = 0
+countOf (Difference x y z n) = 0
+countOf (Call x g k n) = k
+countOf (Goto l n) = 0
+countOf (Return x n) = 0
+countOf (Branch y z l m n) = 0
+countOf (Raise n) = 0
+countOf (Refused r) = 0

@@ -4,15 +4,15 @@ use native.Mathlib.Omega.{arith}
 use lib.ListN.{length}
 use Rattle.semantics.specs.Program.{Block, constant, copy, difference, call, goto, return, branch, raise, Labelled, Function, Program, variables, functionOf, noFunction}
 use Rattle.semantics.specs.WellFormed.{All, WellFormedBlock, WellFormedLabelled, WellFormedFunction}
+use Rattle.semantics.specs.ListLaws.{all-getD}
 use Rattle.parsing.specs.Bytes.{Bytes}
 use Rattle.parsing.specs.RowLaws.{Row, none, more, row-bytes, append, row-list, row-joined, value-row}
 use Rattle.procedure_names.specs.Writing.{blockBytes, labelledBytes, functionBytes, writing, ValuesFit, FunctionInRange, InRange}
 use Rattle.procedure_file.specs.Accepted.{HasFile}
-use Rattle.procedure_file.specs.ReadsBackLaws.{all-at}
 
 module _ (P : Program) (r : InRange P) where
   params-bound : (g : ℕ) → g < length P → functionOf P g .params ≤ 8
-  params-bound g h = all-at FunctionInRange P (r .functions) g noFunction h .params
+  params-bound g h = all-getD FunctionInRange P g noFunction (r .functions) h .params
 
   module _ (v n : ℕ) (counterBound : v ≤ 32) (labels : n ≤ 63) where
     block-row : (b : Block) → WellFormedBlock P v n b → ValuesFit b → Row (blockBytes b)

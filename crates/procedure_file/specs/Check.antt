@@ -3,7 +3,7 @@
 use Prim.Native.Nat.{ℕ}
 use mathlib.Core.List.{List, []}
 use Rattle.semantics.specs.Program.{Program}
-use Rattle.parsing.specs.Parser.{Parsed, read, refuse, Verdict, accepted, refused}
+use Rattle.parsing.specs.Parser.{Parsed, read, refuse, Verdict, refused}
 use Rattle.procedure_layout.specs.Layout.{program}
 use Rattle.procedure_names.specs.Names.{namesOf, firstWrong}
 

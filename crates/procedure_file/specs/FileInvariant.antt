@@ -1,16 +1,18 @@
 -- What upper crates may rest on: the facts of an accepted file. Their proof is in FileInvariantLaws.
-use Prim.Native.Nat.{ℕ, _+_, _≤_, _<_}
+use Prim.Native.Nat.{ℕ, _≤_, _<_}
 use mathlib.Core.Path.{_≡_}
 use mathlib.Core.List.{List, _++_}
 use mathlib.Core.Option.{some}
-use lib.ListN.{length, getD, drop, getElem?}
+use lib.ListN.{length, drop, getElem?}
 use Rattle.parsing.specs.declared.Refusal.{Refusal}
 use Rattle.semantics.specs.Program.{Function, variables, functionOf}
 use Rattle.semantics.specs.Bench.{labelledAt}
 use Rattle.semantics.specs.WellFormed.{IsLabel, WellFormed, WellFormedBlock}
+use Rattle.procedure_operations.specs.declared.operation.Operation.{Operation}
 use Rattle.procedure_operations.specs.declared.operation.Operation.the-variants.{Call, Refused}
 use Rattle.procedure_layout.specs.declared.layout.After.the-variants.{Onward}
 use Rattle.procedure_operations.specs.Operation.{operationAt}
+use Rattle.procedure_operations.specs.Ranges.{NumbersInRange}
 use Rattle.procedure_layout.specs.Layout.{fileLimit, maxFunctions, argumentsAt}
 use Rattle.procedure_names.specs.Writing.{blockBytes, writing, ValuesFit}
 use Rattle.procedure_file.specs.Check.{programOf}
@@ -51,10 +53,10 @@ pub record FileInvariant (s : List ℕ) : Type 0 where
   -- The operation at an offset where one stands.
   pub inside : (f at : ℕ) → Stands s f at → at < length s
   pub operation : (f at : ℕ) (r : Refusal) → Stands s f at → operationAt s at ≡ Refused r → ⊥
+  pub numbers : (f at : ℕ) (o : Operation) → Stands s f at → operationAt s at ≡ o → NumbersInRange s at o
   pub next : (f at m : ℕ) → Stands s f at → afterOf (operationAt s at) ≡ Onward m → Stands s f m
   pub forward : (f at m : ℕ) → Stands s f at → afterOf (operationAt s at) ≡ Onward m → (at < m) × (m ≤ length s)
   -- The rest of a block, by cases on the operation.
   pub rest : (at : ℕ) → restAt s at ≡ restFrom s at (operationAt s at) (restAt s)
-  -- The arguments of a call.
+  -- A call has as many arguments as its count says.
   pub called : (at x g n m : ℕ) → operationAt s at ≡ Call x g n m → length (argumentsAt s at n) ≡ n
-  pub argument : (at x g n m i : ℕ) → operationAt s at ≡ Call x g n m → i < n → getElem? (argumentsAt s at n) i ≡ some (getD s (at + 4 + i) 0)

@@ -1,24 +1,27 @@
 -- The facts of an accepted file, proved.
 use Prim.Native.Nat.{ℕ, zero, suc, _+_, _≤_, _<_}
-use mathlib.Core.Path.{_≡_, refl, ap, _∙_}
-use mathlib.Core.List.{List, [], _∷_}
-use mathlib.Core.Option.{some, none}
+use mathlib.Core.Path.{_≡_, ap, _∙_, subst}
+use mathlib.Core.List.{List}
+use mathlib.Core.Option.{some}
 use native.Mathlib.Omega.{arith}
-use lib.ListN.{length, getD, drop, getElem?, length-drop}
-use lib.Seq.{length-take-le, getD-take, getD-drop}
+use lib.ListN.{length, getD, drop, length-drop}
+use lib.Seq.{length-take-le}
 use Rattle.parsing.specs.declared.Refusal.{Refusal}
 use Rattle.parsing.specs.ParserLaws.{impossible}
-use Rattle.parsing.specs.Parser.{read, accepted}
+use Rattle.parsing.specs.Parser.{accepted}
 use Rattle.semantics.specs.Program.{Block, Function, Program, variables, functionOf, noFunction}
 use Rattle.semantics.specs.Bench.{labelledAt}
 use Rattle.semantics.specs.WellFormed.{IsLabel, WellFormed, WellFormedBlock, WellFormedLabelled, WellFormedFunction}
-use Rattle.procedure_operations.specs.declared.operation.Operation.the-variants.{Refused}
+use Rattle.semantics.specs.ListLaws.{at-getD, all-getD}
+use Rattle.procedure_operations.specs.declared.operation.Operation.{Operation}
+use Rattle.procedure_operations.specs.declared.operation.Operation.the-variants.{Constant, Copy, Difference, Call, Goto, Return, Branch, Raise, Refused}
 use Rattle.procedure_layout.specs.declared.layout.After.the-variants.{Onward}
 use Rattle.procedure_operations.specs.Operation.{operationAt}
+use Rattle.procedure_operations.specs.Ranges.{NumbersInRange}
 use Rattle.procedure_layout.specs.Layout.{argumentsAt, block}
 use Rattle.procedure_names.specs.Writing.{blockBytes}
 use Rattle.procedure_file.specs.Check.{checkOf, programOf}
-use Rattle.procedure_layout.specs.Rest.{restAt}
+use Rattle.procedure_layout.specs.Rest.{restFrom, restAt}
 use Rattle.procedure_layout.specs.After.{afterOf}
 use Rattle.procedure_file.specs.Places.{startOf, noLabelled, blockOf, handlerOf}
 use Rattle.parsing.specs.Bytes.{Bytes}
@@ -27,7 +30,7 @@ use Rattle.procedure_layout.specs.WalkLaws.{rest-law}
 use Rattle.procedure_layout.specs.LayoutLaws.{onward-moves}
 use Rattle.procedure_layout.specs.BlockLaws.{ReadBlock, readConstant, readCopy, readDifference, readCall, readGoto, readReturn, readBranch, readRaise, read-block}
 use Rattle.procedure_file.specs.WrittenLaws.{bytes-at-block, fit-block}
-use Rattle.procedure_file.specs.ReadsBackLaws.{all-at, reads-block}
+use Rattle.procedure_file.specs.ReadsBackLaws.{reads-block}
 use Rattle.procedure_file.specs.AcceptedLaws.{laid-reads, passed, laid-by, is-writing}
 use Rattle.procedure_names.specs.NamedLaws.{call-room}
 use Rattle.procedure_file.specs.PlacesLaws.{rest-is, block-inside, start-at}
@@ -82,21 +85,37 @@ not-refused s at r (readReturn e i) w = impossible (cc (op-return s at e i))
 not-refused s at r (readBranch e i) w = impossible (cc (op-branch s at e i))
 not-refused s at r (readRaise e i) w = impossible (cc (op-raise s at e i))
 
-element : {A : Type 0} (l : List A) (i : ℕ) (d : A) → i < length l → getElem? l i ≡ some (getD l i d)
-element [] i d h = absurd (omega arith)
-element (a ∷ l) zero d h = refl
-element (a ∷ l) (suc i) d h = element l i d (omega arith)
+-- The numbers of a well-formed operation, in a function of at most 32 variables.
+module _ (P : Program) (v n : ℕ) (small : v ≤ 32) (most : length P ≤ 32) (s : List ℕ) (at : ℕ) where
+  numbers-of : (o : Operation) → operationAt s at ≡ o → WellFormedBlock P v n (restFrom s at o (restAt s)) → NumbersInRange s at o
+  numbers-of (Constant x i m) e w = omega (arith, w .0)
+  numbers-of (Copy x y m) e w = (omega (arith, w .0), omega (arith, w .1))
+  numbers-of (Difference x y z m) e w = (omega (arith, w .0), omega (arith, w .1), omega (arith, w .2))
+  numbers-of (Call x g k m) e w = (
+    omega (arith, w .0),
+    omega (arith, w .1),
+    λ i h.
+        let l = length-drop (at + 4) s in
+        let c = length-take-le k (drop (at + 4) s) (omega (arith, call-room s at x g k m e)) in
+        let y = all-getD (λ (y : ℕ). y < v) (argumentsAt s at k) i 0 (w .3) (omega (arith, c)) in
+        omega (arith, y),
+  )
+  numbers-of (Goto l m) e w = tt
+  numbers-of (Return x m) e w = omega (arith, w)
+  numbers-of (Branch y z l k m) e w = (omega (arith, w .0), omega (arith, w .1))
+  numbers-of (Raise m) e w = tt
+  numbers-of (Refused r) e w = tt
 
 labelled-is : (F : Function) (l : ℕ) → IsLabel (length (F .blocks)) l → labelledAt (F .blocks) l ≡ some (record { handler = handlerOf F l; block = blockOf F l })
 labelled-is F zero h = absurd (omega (arith, h .0))
-labelled-is F (suc l) h = element (F .blocks) l noLabelled (omega (arith, h .1))
+labelled-is F (suc l) h = at-getD (F .blocks) l noLabelled (omega (arith, h .1))
 
 formed-at : (P : Program) → WellFormed P → (f l : ℕ) → f < length P → l ≤ length (functionOf P f .blocks)
     → WellFormedBlock P (variables (functionOf P f)) (length (functionOf P f .blocks)) (blockOf (functionOf P f) l)
-formed-at P w f zero h k = all-at (WellFormedFunction P) P w f noFunction h .entry
+formed-at P w f zero h k = all-getD (WellFormedFunction P) P f noFunction w h .entry
 formed-at P w f (suc l) h k =
     let F = functionOf P f in
-    all-at (WellFormedLabelled P (variables F) (length (F .blocks))) (F .blocks) (all-at (WellFormedFunction P) P w f noFunction h .blocks) l noLabelled (omega arith) .block
+    all-getD (WellFormedLabelled P (variables F) (length (F .blocks))) (F .blocks) l noLabelled (all-getD (WellFormedFunction P) P f noFunction w h .blocks) (omega arith) .block
 
 pub invariant : (s : List ℕ) → Bytes s → checkOf s ≡ accepted → FileInvariant s
 invariant s bytes e =
@@ -111,18 +130,19 @@ invariant s bytes e =
       most = laid-reads L .most;
       counts = λ f h. record { params = params-bound s L f h; locals = locals-bound s L f h; blocks = blocks-bound s L f h };
       fileBound = L .fileBound;
-      function = λ f h. element P f noFunction h;
+      function = λ f h. at-getD P f noFunction h;
       start = λ f l h k. read-stands s bytes f (startOf P f l) _ _ h (start-at s bytes P (laid-reads L) f h l k) (formed-at P (t .0 .wellFormed) f l h k);
       block = λ f l h k. rest-is s (start-at s bytes P (laid-reads L) f h l k);
       labelled = λ f l h. labelled-is (functionOf P f) l h;
       inside = λ f m w. let i = block-inside s (stands-read s f m w) in omega (arith, i .0, i .1);
       operation = λ f m r w x. not-refused s m r (stands-read s f m w) x;
+      numbers = λ f m o w x.
+          let h = w .there in
+          let v : variables (functionOf P f) ≤ 32 = omega (arith, params-bound s L f h, locals-bound s L f h) in
+          numbers-of P (variables (functionOf P f)) (length (functionOf P f .blocks)) v (laid-reads L .most) s m o x
+          (subst (WellFormedBlock P (variables (functionOf P f)) (length (functionOf P f .blocks))) (rest-law s m ∙ ap (λ (q : Operation). restFrom s m q (restAt s)) x) (w .formed));
       next = λ f m n w x. by-read s bytes f m n (w .there) (stands-read s f m w) (w .formed) x;
       forward = λ f m n w x. onward-moves s m n x;
       rest = rest-law s;
       called = λ m x g n k c. let l = length-drop (m + 4) s in length-take-le n (drop (m + 4) s) (omega (arith, call-room s m x g n k c));
-      argument = λ m x g n k i c h.
-          let l = length-drop (m + 4) s in
-          let r = length-take-le n (drop (m + 4) s) (omega (arith, call-room s m x g n k c)) in
-          element (argumentsAt s m n) i 0 (omega (arith, r)) ∙ ap some (getD-take n (drop (m + 4) s) i 0 h ∙ getD-drop (m + 4) s i 0);
     }

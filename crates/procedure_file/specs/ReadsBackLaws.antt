@@ -1,5 +1,5 @@
 -- The writing of a program in range is read as that program.
-use Prim.Native.Nat.{ℕ, zero, suc, _+_, _*_, _/_, _%_, _≤_, _<_}
+use Prim.Native.Nat.{ℕ, _+_, _≤_}
 use mathlib.Core.Path.{_≡_, refl, sym, ap, _∙_}
 use mathlib.Core.List.{List, [], _∷_, _++_, append-nil, append-assoc}
 use native.Mathlib.Omega.{arith}
@@ -7,36 +7,21 @@ use lib.IntN.{ℤ}
 use lib.ListN.{length, getD, take, drop, length-append}
 use lib.Seq.{take-at}
 use mir.Syntax.{w32}
-use mir.Val.{ofZ, SFits}
-use mir.Facts.{toZ-ofZ}
+use mir.Val.{SFits}
 use Rattle.parsing.specs.Parser.{read, andThen, many, joined}
-use Rattle.parsing.specs.Fields.{byte, count, valueOf, valueAt}
+use Rattle.parsing.specs.Fields.{byte, count, valueAt}
 use Rattle.parsing.specs.ReadsLaws.{Reads, behind, byte-here, first-here, length-here, next-here, reads-bind, reads-map, reads-many, reads-byte, reads-count, reads-head, reads-ended}
 use Rattle.semantics.specs.Program.{Block, constant, copy, difference, call, goto, return, branch, raise, Labelled, Function, Program}
-use Rattle.semantics.specs.WellFormed.{All}
+use Rattle.semantics.specs.ListLaws.{all-getD}
 use Rattle.procedure_operations.specs.declared.operation.Operation.{Operation}
 use Rattle.procedure_operations.specs.declared.operation.Operation.the-variants.{Constant, Copy, Difference, Call, Goto, Return, Branch, Raise}
 use Rattle.procedure_operations.specs.Operation.{operationAt}
 use Rattle.procedure_layout.specs.Layout.{spf, fileLimit, argumentsAt, blockFrom, before, block, labelled, heading, function, program}
 use Rattle.parsing.specs.Bytes.{valueBytes}
+use Rattle.parsing.specs.BytesLaws.{value-forth}
 use Rattle.procedure_names.specs.Writing.{blockBytes, labelledBytes, functionBytes, writing, ValuesFit, FunctionInRange, InRange}
 use Rattle.procedure_operations.specs.OperationLaws.{op-constant, op-copy, op-difference, op-call, op-goto, op-return, op-branch, op-raise}
 use Rattle.procedure_layout.specs.WalkLaws.{block-law}
-
--- What holds of every element holds of each.
-pub all-at : {A : Type 0} (Q : A → Type 0) (as′ : List A) → All Q as′ → (i : ℕ) (d : A) → i < length as′ → Q (getD as′ i d)
-all-at Q [] h i d l = absurd (omega arith)
-all-at Q (a ∷ more) h zero d l = h .0
-all-at Q (a ∷ more) h (suc i) d l = all-at Q more (h .1) i d (omega arith)
-
--- The value of the bytes of a value is that value.
-pub value-forth : (i : ℤ) → SFits w32 i
-    → valueOf (ofZ w32 i % 256) (ofZ w32 i / 256 % 256) (ofZ w32 i / 256 / 256 % 256) (ofZ w32 i / 256 / 256 / 256) ≡ i
-unfolding valueOf
-value-forth i f =
-    let n = ofZ w32 i in
-    let e : n % 256 + 256 * (n / 256 % 256) + 65536 * (n / 256 / 256 % 256) + 16777216 * (n / 256 / 256 / 256) ≡ n = omega arith in
-    rw e (toZ-ofZ f)
 
 -- An operation before a block that is read.
 block-behind : (s : List ℕ) (at m n n′ : ℕ) (c : Block → Block) (b : Block) → block s at ≡ before c (block s m) → block s m ≡ read b n → n ≡ n′ → block s at ≡ read (c b) n′
@@ -146,7 +131,7 @@ function-reads F r =
     (reads-bind block (λ b s k. andThen (many (length (F .blocks)) labelled s k) (λ bs j. read (record { params = F .params; locals = F .locals; entry = b; blocks = bs }) j))
     (block-reads (F .entry) (r .entryValues))
     (reads-map (many (length (F .blocks)) labelled) (λ bs s j. read (record { params = F .params; locals = F .locals; entry = F .entry; blocks = bs }) j)
-    (reads-many labelled labelledBytes (F .blocks) (λ i d h. labelled-reads (getD (F .blocks) i d) (all-at (λ B. ValuesFit (B .block)) (F .blocks) (r .blockValues) i d h)))
+    (reads-many labelled labelledBytes (F .blocks) (λ i d h. labelled-reads (getD (F .blocks) i d) (all-getD (λ B. ValuesFit (B .block)) (F .blocks) i d (r .blockValues) h)))
     (λ s m. refl)))
 
 pub reads-program : (P : Program) → InRange P → length (writing P) ≤ fileLimit → program (writing P) 0 ≡ read P (length (writing P))
@@ -155,6 +140,6 @@ reads-program P r fits =
     let s : List ℕ = 83 ∷ 80 ∷ 70 ∷ 1 ∷ 0 ∷ length P ∷ joined functionBytes P in
     let a = reads-head spf fileLimit s (length P ∷ joined functionBytes P) refl fits in
     let c = reads-count 1 32 (length P) (r .some) (r .most) .reads s 5 (joined functionBytes P) refl in
-    let d = reads-many function functionBytes P (λ i e h. function-reads (getD P i e) (all-at FunctionInRange P (r .functions) i e h)) .reads s 6 [] (sym (append-nil (joined functionBytes P))) in
+    let d = reads-many function functionBytes P (λ i e h. function-reads (getD P i e) (all-getD FunctionInRange P i e (r .functions) h)) .reads s 6 [] (sym (append-nil (joined functionBytes P))) in
     let n : 6 + length (joined functionBytes P) ≡ length s = omega arith in
     rw (a, c, d, n, reads-ended s (length s) (omega arith))

@@ -1,13 +1,12 @@
 -- The file that was read is the writing of its program.
-use Prim.Native.Nat.{ℕ, _+_, _*_, _≤_, _<_}
+use Prim.Native.Nat.{ℕ, _+_, _≤_, _<_}
 use mathlib.Core.Path.{_≡_, sym, ap, _∙_}
 use mathlib.Core.List.{List, [], _∷_, _++_, append-nil}
 use native.Mathlib.Omega.{arith}
 use lib.ListN.{length, getD, take, drop, take-append-drop, length-drop, drop-of-length-le}
 use lib.Seq.{length-take-le, drop-drop, drop-length}
 use mir.Syntax.{w32}
-use mir.Val.{Fits, SFits}
-use mir.Facts.{ofZ-toZ, sfits-toZ}
+use mir.Val.{SFits}
 use Rattle.parsing.specs.Parser.{read, andThen, many, joined}
 use Rattle.parsing.specs.Fields.{byte, head, count, ended, valueOf, valueAt}
 use Rattle.parsing.specs.ParserLaws.{sequence, ReadMany, none, one, read-many, read-byte, read-count}
@@ -16,30 +15,10 @@ use Rattle.semantics.specs.Program.{Block, Labelled, Function, Program}
 use Rattle.semantics.specs.WellFormed.{All}
 use Rattle.procedure_layout.specs.Layout.{spf, fileLimit, argumentsAt, block, labelled, Heading, heading, function, program}
 use Rattle.parsing.specs.Bytes.{Bytes, valueBytes}
+use Rattle.parsing.specs.BytesLaws.{value-back, value-range}
 use Rattle.procedure_names.specs.Writing.{blockBytes, labelledBytes, functionBytes, writing, ValuesFit, FunctionInRange, InRange}
 use Rattle.procedure_layout.specs.LayoutLaws.{HeadingAt, read-heading}
 use Rattle.procedure_layout.specs.BlockLaws.{ReadBlock, readConstant, readCopy, readDifference, readCall, readGoto, readReturn, readBranch, readRaise, read-block}
-
--- The bytes of the value of four bytes are those.
-module _ (a b c d : ℕ) (a-byte : a < 256) (b-byte : b < 256) (c-byte : c < 256) (d-byte : d < 256) where
-  abbrev bits : ℕ
-  bits = a + 256 * b + 65536 * c + 16777216 * d
-
-  fits : Fits w32 bits
-  fits = record { fits = omega arith }
-
-  pub value-back : valueBytes (valueOf a b c d) ≡ a ∷ b ∷ c ∷ d ∷ []
-  unfolding valueOf
-  value-back =
-      rw (ofZ-toZ {w = w32} {n = bits} fits)
-      (go (omega arith) (omega arith) (omega arith) (omega arith))
-    where
-      go : {x y z w : ℕ} → x ≡ a → y ≡ b → z ≡ c → w ≡ d → x ∷ y ∷ z ∷ w ∷ [] ≡ a ∷ b ∷ c ∷ d ∷ []
-      go p q r t = cc
-
-  pub value-range : SFits w32 (valueOf a b c d)
-  unfolding valueOf
-  value-range = sfits-toZ {w = w32} {n = bits} fits
 
 module _ (s : List ℕ) (bytes : Bytes s) where
   -- The value behind an operation byte and a variable, by its bytes.

@@ -1,13 +1,15 @@
 -- The layout of a procedure file (document 01, 'The procedure file'): which program its bytes are, or the first refusal of 15 and 1 to 6.
-use Prim.Native.Nat.{ℕ, zero, suc, _+_}
+use Prim.Native.Nat.{ℕ, zero, suc}
 use mathlib.Core.List.{List, [], _∷_}
-use lib.ListN.{length, take, drop}
+use lib.ListN.{length}
 use Rattle.semantics.specs.Program.{Block, constant, copy, difference, call, goto, return, branch, raise, Labelled, Function, Program}
 use Rattle.parsing.specs.Parser.{Parsed, read, refuse, Parser, give, _>>=_, many}
 use Rattle.parsing.specs.Fields.{cut, byte, head, count, ended}
 use Rattle.procedure_operations.specs.declared.operation.Operation.{Operation}
 use Rattle.procedure_operations.specs.declared.operation.Operation.the-variants.{Constant, Copy, Difference, Call, Goto, Return, Branch, Raise, Refused}
 use Rattle.procedure_operations.specs.Operation.{operationAt}
+pub use Rattle.procedure_operations.specs.Operation.{argumentsAt}
+pub use Rattle.procedure_operations.specs.Numbers.{maxFunctions, maxVariables}
 
 -- The bytes `SPF`.
 abbrev pub spf : List ℕ
@@ -17,14 +19,6 @@ spf = 83 ∷ 80 ∷ 70 ∷ []
 abbrev pub fileLimit : ℕ
 fileLimit = 32768
 
--- "Function count (1 to 32)."
-abbrev pub maxFunctions : ℕ
-maxFunctions = 32
-
--- "Parameter count (0 to 8), local count (0 to 24)": variables of a function at most.
-abbrev pub maxVariables : ℕ
-maxVariables = 32
-
 -- What is made of the operations from an offset on: `step` says what an operation makes of what follows it. The fuel `n` never runs
 -- out where it is the file's length; `stop` is what the end of the file makes (`walk-law` in WalkLaws).
 abbrev pub walkN : {A : Type 0} → List ℕ → (ℕ → Operation → (ℕ → A) → A) → A → ℕ → ℕ → A
@@ -33,10 +27,6 @@ walkN s step stop (suc n) at = step at (operationAt s at) (walkN s step stop n)
 
 unfoldable pub walk : {A : Type 0} → List ℕ → (ℕ → Operation → (ℕ → A) → A) → A → ℕ → A
 walk s step stop at = walkN s step stop (length s) at
-
--- The arguments of the call at an offset.
-abbrev pub argumentsAt : List ℕ → ℕ → ℕ → List ℕ
-argumentsAt s at n = take n (drop (at + 4) s)
 
 -- An operation before a block that was read.
 abbrev pub before : (Block → Block) → Parsed Block → Parsed Block

@@ -6,7 +6,7 @@ use native.Mathlib.Omega.{arith}
 use lib.ListN.{length, getD}
 use Rattle.parsing.specs.Fields.{cut, valueAt}
 use Rattle.semantics.specs.Program.{Block, constant, copy, difference, call, raise}
-use Rattle.parsing.specs.Parser.{Parsed, read, refuse}
+use Rattle.parsing.specs.Parser.{Parsed, refuse}
 use Rattle.procedure_operations.specs.declared.operation.Operation.{Operation}
 use Rattle.procedure_operations.specs.declared.operation.Operation.the-variants.{Refused}
 use Rattle.procedure_operations.specs.Operation.{operationAt}

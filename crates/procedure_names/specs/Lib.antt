@@ -1,7 +1,6 @@
 -- The writing of programs and the names in it. Definitions, in reading order.
 pub mod Writing
 pub mod Names
-pub mod Numbers
 pub mod OperationNames
 -- Laws.
 pub mod NamesLaws

@@ -1,11 +1,9 @@
 -- Laws of names, as the functions that judge them meet them.
 use Prim.Native.Nat.{ℕ, suc, _+_, _-_, _≤_, _<_}
 use mathlib.Core.Path.{_≡_, refl, sym, ap, ap₂, _∙_, subst}
-use mathlib.Core.Bool.{Bool, true, false, cond}
 use mathlib.Core.List.{List, [], _∷_, _++_}
 use native.Mathlib.Omega.{arith}
-use borrow.Author.Tests.{le-leb, lt-leb, ltb-true, ltb-false, lt-ltb, le-ltb, eq-eqb, ne-eqb}
-use lib.Dec.{ltb}
+use borrow.Author.Tests.{le-leb, lt-leb, lt-ltb, le-ltb, eq-eqb, ne-eqb}
 use lib.ListN.{length, getD, drop, drop-of-length-le, length-drop}
 use lib.Seq.{drop-cons, getD-take, getD-drop, length-take-le}
 use Rattle.parsing.specs.declared.Refusal.{Refusal}
@@ -13,60 +11,21 @@ use Rattle.parsing.specs.declared.Checked.{Checked}
 use Rattle.parsing.specs.declared.Checked.the-variants.{Accepted}
 use Rattle.parsing.specs.ParserLaws.{impossible}
 use Rattle.parsing.specs.Parser.{Verdict, accepted, refused, orElse, verdictOf}
-use Rattle.semantics.specs.Program.{Block, call}
+use Rattle.semantics.specs.Program.{Block}
 use Rattle.procedure_operations.specs.declared.operation.Operation.{Operation}
 use Rattle.procedure_operations.specs.declared.operation.Operation.the-variants.{Constant, Copy, Difference, Call, Goto, Return, Branch, Raise, Refused}
 use Rattle.procedure_layout.specs.declared.layout.After.{After}
 use Rattle.procedure_layout.specs.declared.layout.After.the-variants.{Onward, Ended, Halted}
-use Rattle.procedure_names.specs.declared.names.FunctionNumber.{FunctionNumber}
-use Rattle.procedure_names.specs.declared.names.VariableNumber.{VariableNumber}
-use Rattle.procedure_names.specs.declared.names.FunctionFound.the-variants.{Function, NoFunction}
-use Rattle.procedure_names.specs.declared.names.VariableFound.the-variants.{Variable, NoVariable}
 use Rattle.procedure_operations.specs.Operation.{operationAt}
 use Rattle.procedure_layout.specs.Layout.{argumentsAt}
 use Rattle.procedure_layout.specs.Rest.{restFrom, restAt}
 use Rattle.procedure_layout.specs.After.{afterOf}
 use Rattle.procedure_names.specs.Names.{Name, variable, label, handler, function, arity, arguments, blockNames, firstWrong}
-use Rattle.procedure_names.specs.Numbers.{functionFound, variableFound}
 use Rattle.procedure_names.specs.OperationNames.{operationNames}
 use Rattle.procedure_operations.specs.OperationLaws.{operation-past}
 use Rattle.procedure_operations.specs.ViewLaws.{View, isConstant, isCopy, isDifference, isCall, isGoto, isReturn, isBranch, isRaise, isRefused, view}
 use Rattle.procedure_layout.specs.WalkLaws.{rest-law}
 use Rattle.procedure_names.specs.NamesLaws.{first-append}
-
--- Numbers that were found, or were not.
-module _ (x n : ℕ) where
-  pub function-is : (g : FunctionNumber) → functionFound x n ≡ Function g → (g .0 ≡ x) × (x < n)
-  unfolding functionFound
-  function-is g e = go (ltb x n) refl e
-    where
-      go : (t : Bool) → ltb x n ≡ t → cond t (Function (record { 0 = x })) NoFunction ≡ Function g → (g .0 ≡ x) × (x < n)
-      go true l w = let p : record { 0 = x } ≡ g = cc in (ap (λ (k : FunctionNumber). k .0) (sym p), ltb-true x n l)
-      go false l w = impossible (cc)
-
-  pub function-none : functionFound x n ≡ NoFunction → n ≤ x
-  unfolding functionFound
-  function-none e = go (ltb x n) refl e
-    where
-      go : (t : Bool) → ltb x n ≡ t → cond t (Function (record { 0 = x })) NoFunction ≡ NoFunction → n ≤ x
-      go true l w = impossible (cc)
-      go false l w = ltb-false x n l
-
-  pub variable-is : (y : VariableNumber) → variableFound x n ≡ Variable y → x < n
-  unfolding variableFound
-  variable-is y e = go (ltb x n) refl e
-    where
-      go : (t : Bool) → ltb x n ≡ t → cond t (Variable (record { 0 = x })) NoVariable ≡ Variable y → x < n
-      go true l w = ltb-true x n l
-      go false l w = impossible (cc)
-
-  pub variable-none : variableFound x n ≡ NoVariable → n ≤ x
-  unfolding variableFound
-  variable-none e = go (ltb x n) refl e
-    where
-      go : (t : Bool) → ltb x n ≡ t → cond t (Variable (record { 0 = x })) NoVariable ≡ NoVariable → n ≤ x
-      go true l w = impossible (cc)
-      go false l w = ltb-false x n l
 
 -- One name.
 module _ (v place x : ℕ) where

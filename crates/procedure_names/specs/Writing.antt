@@ -8,6 +8,7 @@ use Rattle.parsing.specs.Parser.{joined}
 use Rattle.parsing.specs.Bytes.{valueBytes}
 use Rattle.semantics.specs.Program.{Block, constant, copy, difference, call, goto, return, branch, raise, Labelled, Function, Program}
 use Rattle.semantics.specs.WellFormed.{All}
+use Rattle.procedure_operations.specs.Numbers.{maxFunctions}
 
 abbrev pub blockBytes : Block → List ℕ
 blockBytes (constant x i b) = 1 ∷ x ∷ (valueBytes i ++ blockBytes b)
@@ -50,5 +51,5 @@ pub record FunctionInRange (F : Function) : Type 0 where
 -- The ranges of a program.
 pub record InRange (P : Program) : Type 0 where
   pub some : 1 ≤ length P
-  pub most : length P ≤ 32
+  pub most : length P ≤ maxFunctions
   pub functions : All FunctionInRange P

@@ -5,6 +5,11 @@ use parsing::or_else;
 use parsing::refusals;
 use procedure_layout::layout;
 use procedure_layout::layout::After;
+use procedure_operations::numbers::FunctionFound;
+use procedure_operations::numbers::FunctionNumber;
+use procedure_operations::numbers::VariableFound;
+use procedure_operations::numbers::function_number;
+use procedure_operations::numbers::variable_number;
 use procedure_operations::operation;
 use procedure_operations::operation::Operation;
 ghost use mathlib.Core.Path.{_≡_};
@@ -18,44 +23,6 @@ ghost use Rattle.procedure_layout.specs.Rest.{restAt};
 ghost use Rattle.procedure_names.specs.Names.{variable, label, function, arity, arguments, blockNames, firstWrong};
 ghost use Rattle.procedure_names.specs.OperationNames.{operationNames};
 ghost use Rattle.procedure_operations.specs.declared.operation.Operation.the-variants.{Call};
-ghost use Rattle.procedure_names.specs.Numbers.{variableFound, functionFound};
-
-// "Function numbers and variable numbers are two sets with nothing in common": made only after their range tests.
-pub struct FunctionNumber(pub u8);
-
-pub struct VariableNumber(pub u8);
-
-pub enum FunctionFound {
-    Function(FunctionNumber),
-    NoFunction,
-}
-
-pub enum VariableFound {
-    Variable(VariableNumber),
-    NoVariable,
-}
-
-// The number of a function, of `functions`.
-pub fn function_number(g: u8, functions: usize) -> FunctionFound
-    ensures { λ r. ⌜ r ≡ functionFound g functions ⌝ }
-{
-    if (g as usize) < functions {
-        FunctionFound::Function(FunctionNumber(g))
-    } else {
-        FunctionFound::NoFunction
-    }
-}
-
-// The number of a variable, of `variables`.
-pub fn variable_number(x: u8, variables: usize) -> VariableFound
-    ensures { λ r. ⌜ r ≡ variableFound x variables ⌝ }
-{
-    if (x as usize) < variables {
-        VariableFound::Variable(VariableNumber(x))
-    } else {
-        VariableFound::NoVariable
-    }
-}
 
 fn variable_named(x: u8, variables: usize, place: usize) -> Checked
     ensures { λ r. ⌜ verdictOf r ≡ firstWrong (variable variables place x ∷ []) ⌝ }
@@ -93,7 +60,7 @@ fn arity_of(params: &[u8], g: FunctionNumber) -> u8
     requires { ⌜ g .0 < length (now params) ⌝ }
     ensures { λ r. ⌜ r ≡ getD (now (params .entry)) (g .0) 0 ⌝ }
 {
-    let i = g.0 as usize;
+    let i = g.index();
     params[i]
 }
 

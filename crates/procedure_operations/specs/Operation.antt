@@ -3,7 +3,7 @@ use Prim.Native.Nat.{ℕ, _+_}
 use mathlib.Core.Bool.{cond}
 use mathlib.Core.List.{List}
 use lib.Dec.{leb, eqb}
-use lib.ListN.{length, getD}
+use lib.ListN.{length, getD, take, drop}
 use Rattle.parsing.specs.Refusals.{unknown}
 use Rattle.parsing.specs.Parser.{refusal}
 use Rattle.parsing.specs.Fields.{cut, valueAt}
@@ -31,6 +31,10 @@ unfoldable pub callAt : List ℕ → ℕ → Operation
 callAt s at =
     let count = getD s (at + 3) 0 in
     whole s (at + 4) (whole s (at + 4 + count) (Call (getD s (at + 1) 0) (getD s (at + 2) 0) count (at + 4 + count)))
+
+-- The arguments of the call at an offset.
+abbrev pub argumentsAt : List ℕ → ℕ → ℕ → List ℕ
+argumentsAt s at n = take n (drop (at + 4) s)
 
 -- "5 goto: label."
 unfoldable pub gotoAt : List ℕ → ℕ → Operation

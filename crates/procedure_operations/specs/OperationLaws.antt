@@ -9,7 +9,7 @@ use lib.ListN.{length, getD}
 use Rattle.parsing.specs.Parser.{refusal}
 use Rattle.parsing.specs.Fields.{cut, valueAt}
 use Rattle.procedure_operations.specs.declared.operation.Operation.the-variants.{Constant, Copy, Difference, Call, Goto, Return, Branch, Raise, Refused}
-use Rattle.procedure_operations.specs.Operation.{whole, constantAt, copyAt, differenceAt, callAt, gotoAt, returnAt, branchAt, endAt, operationAt}
+use Rattle.procedure_operations.specs.Operation.{constantAt, copyAt, differenceAt, callAt, gotoAt, returnAt, branchAt, endAt, operationAt}
 
 -- Each operation, cut short and whole.
 module _ (s : List ℕ) (at : ℕ) where

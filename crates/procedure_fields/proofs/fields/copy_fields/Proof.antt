@@ -1,33 +1,63 @@
 -- `procedure_fields::fields::copy_fields` meets its contract.
 use native.Mathlib.Omega.{arith}
-use Rattle.procedure_fields.specs.FieldsLaws.{copy-room, copy-fields}
+use Rattle.procedure_fields.specs.FieldsLaws.{in-range, copy-room, copy-bytes, copy-fields}
 use Rattle.procedure_fields.proofs.fields.copy_fields.Statement.{statement}
 use Rattle.procedure_fields.proofs.fields.copy_fields.Tie as tie
 
+-- Ways back to earlier places that several answers take.
+abbrev entry-before-shared-slice-known3 : tie.After-shared-slice-known3 → tie.Start
+entry-before-shared-slice-known3 c = c .before .before .before .before
+
 add-x : tie.Need-add-x
-add-x c = omega (arith, copy-room (c .args .file .now) (c .args .at) (c .pre))
+add-x c =
+    let entry = c .before in
+    omega (arith, copy-room (entry .args .file .now) (entry .args .at) (entry .pre .0))
 
 add-y : tie.Need-add-y
-add-y c = omega (arith, copy-room (c .args .file .now) (c .args .at) (c .pre))
+add-y c =
+    let entry = c .before in
+    omega (arith, copy-room (entry .args .file .now) (entry .args .at) (entry .pre .0))
 
 add-next : tie.Need-add-next
-add-next c = omega (arith, copy-room (c .args .file .now) (c .args .at) (c .pre))
-
-shared-slice-read-t7 : tie.Need-shared-slice-read-t7
-shared-slice-read-t7 c =
+add-next c =
     let entry = c .before in
-    omega (arith, copy-room (entry .args .file .now) (entry .args .at) (entry .pre))
+    omega (arith, copy-room (entry .args .file .now) (entry .args .at) (entry .pre .0))
 
-shared-slice-read-t9 : tie.Need-shared-slice-read-t9
-shared-slice-read-t9 c =
+shared-slice-read-checked-variable : tie.Need-shared-slice-read-checked-variable
+shared-slice-read-checked-variable c =
     let entry = c .before .before in
-    omega (arith, copy-room (entry .args .file .now) (entry .args .at) (entry .pre))
+    omega (arith, copy-room (entry .args .file .now) (entry .args .at) (entry .pre .0))
+
+checked-variable-requires : tie.Need-checked-variable-requires
+checked-variable-requires c κs =
+    let entry = c .before .before in
+    in-range (entry .args .file .now) (entry .args .at) (entry .pre .1) (copy-bytes (entry .args .file .now) (entry .args .at) (entry .pre .0)) .0
+
+shared-slice-read-checked-variable-2 : tie.Need-shared-slice-read-checked-variable-2
+shared-slice-read-checked-variable-2 c =
+    let entry = entry-before-shared-slice-known3 c in
+    omega (arith, copy-room (entry .args .file .now) (entry .args .at) (entry .pre .0))
+
+checked-variable-requires-2 : tie.Need-checked-variable-requires-2
+checked-variable-requires-2 c κs =
+    let entry = entry-before-shared-slice-known3 c in
+    in-range (entry .args .file .now) (entry .args .at) (entry .pre .1) (copy-bytes (entry .args .file .now) (entry .args .at) (entry .pre .0)) .1
 
 returns : tie.Need-returns
 returns c =
-    let entry = c .before .before in
-    copy-fields (entry .args .file .now) (entry .args .at) (entry .pre)
+    let at-checked-variable = c .before .before in
+    let entry = at-checked-variable .before .before .before in
+    copy-fields (entry .args .file .now) (entry .args .at) (entry .pre .0) (at-checked-variable .checked-variable .ensures) (c .checked-variable2 .ensures)
 
 pub copy-fields-spec : {M : Type 1} → statement M
 copy-fields-spec =
-    tie.close (tie.spec add-x add-y add-next shared-slice-read-t7 shared-slice-read-t9 returns)
+    tie.close
+    (tie.spec
+    add-x
+    add-y
+    add-next
+    shared-slice-read-checked-variable
+    checked-variable-requires
+    shared-slice-read-checked-variable-2
+    checked-variable-requires-2
+    returns)

@@ -1,44 +1,72 @@
 -- `procedure_fields::fields::difference_fields` meets its contract.
 use native.Mathlib.Omega.{arith}
-use Rattle.procedure_fields.specs.FieldsLaws.{difference-room, difference-fields}
+use Rattle.procedure_fields.specs.FieldsLaws.{in-range, difference-room, difference-bytes, difference-fields}
 use Rattle.procedure_fields.proofs.fields.difference_fields.Statement.{statement}
 use Rattle.procedure_fields.proofs.fields.difference_fields.Tie as tie
 
 -- Ways back to earlier places that several answers take.
 abbrev entry-before-shared-slice-known3 : tie.After-shared-slice-known3 → tie.Start
-entry-before-shared-slice-known3 c = c .before .before .before
+entry-before-shared-slice-known3 c = c .before .before .before .before
+
+abbrev entry-before-shared-slice-known4 : tie.After-shared-slice-known4 → tie.Start
+entry-before-shared-slice-known4 c = c .before .before .before .before .before .before
 
 add-x : tie.Need-add-x
-add-x c = omega (arith, difference-room (c .args .file .now) (c .args .at) (c .pre))
+add-x c =
+    let entry = c .before in
+    omega (arith, difference-room (entry .args .file .now) (entry .args .at) (entry .pre .0))
 
 add-y : tie.Need-add-y
-add-y c = omega (arith, difference-room (c .args .file .now) (c .args .at) (c .pre))
+add-y c =
+    let entry = c .before in
+    omega (arith, difference-room (entry .args .file .now) (entry .args .at) (entry .pre .0))
 
 add-z : tie.Need-add-z
-add-z c = omega (arith, difference-room (c .args .file .now) (c .args .at) (c .pre))
+add-z c =
+    let entry = c .before in
+    omega (arith, difference-room (entry .args .file .now) (entry .args .at) (entry .pre .0))
 
 add-next : tie.Need-add-next
-add-next c = omega (arith, difference-room (c .args .file .now) (c .args .at) (c .pre))
-
-shared-slice-read-t8 : tie.Need-shared-slice-read-t8
-shared-slice-read-t8 c =
+add-next c =
     let entry = c .before in
-    omega (arith, difference-room (entry .args .file .now) (entry .args .at) (entry .pre))
+    omega (arith, difference-room (entry .args .file .now) (entry .args .at) (entry .pre .0))
 
-shared-slice-read-t10 : tie.Need-shared-slice-read-t10
-shared-slice-read-t10 c =
+shared-slice-read-checked-variable : tie.Need-shared-slice-read-checked-variable
+shared-slice-read-checked-variable c =
     let entry = c .before .before in
-    omega (arith, difference-room (entry .args .file .now) (entry .args .at) (entry .pre))
+    omega (arith, difference-room (entry .args .file .now) (entry .args .at) (entry .pre .0))
 
-shared-slice-read-t12 : tie.Need-shared-slice-read-t12
-shared-slice-read-t12 c =
+checked-variable-requires : tie.Need-checked-variable-requires
+checked-variable-requires c κs =
+    let entry = c .before .before in
+    in-range (entry .args .file .now) (entry .args .at) (entry .pre .1) (difference-bytes (entry .args .file .now) (entry .args .at) (entry .pre .0)) .0
+
+shared-slice-read-checked-variable-2 : tie.Need-shared-slice-read-checked-variable-2
+shared-slice-read-checked-variable-2 c =
     let entry = entry-before-shared-slice-known3 c in
-    omega (arith, difference-room (entry .args .file .now) (entry .args .at) (entry .pre))
+    omega (arith, difference-room (entry .args .file .now) (entry .args .at) (entry .pre .0))
+
+checked-variable-requires-2 : tie.Need-checked-variable-requires-2
+checked-variable-requires-2 c κs =
+    let entry = entry-before-shared-slice-known3 c in
+    in-range (entry .args .file .now) (entry .args .at) (entry .pre .1) (difference-bytes (entry .args .file .now) (entry .args .at) (entry .pre .0)) .1
+
+shared-slice-read-checked-variable-3 : tie.Need-shared-slice-read-checked-variable-3
+shared-slice-read-checked-variable-3 c =
+    let entry = entry-before-shared-slice-known4 c in
+    omega (arith, difference-room (entry .args .file .now) (entry .args .at) (entry .pre .0))
+
+checked-variable-requires-3 : tie.Need-checked-variable-requires-3
+checked-variable-requires-3 c κs =
+    let entry = entry-before-shared-slice-known4 c in
+    in-range (entry .args .file .now) (entry .args .at) (entry .pre .1) (difference-bytes (entry .args .file .now) (entry .args .at) (entry .pre .0)) .2
 
 returns : tie.Need-returns
 returns c =
-    let entry = entry-before-shared-slice-known3 c in
-    difference-fields (entry .args .file .now) (entry .args .at) (entry .pre)
+    let at-checked-variable2 = c .before .before in
+    let at-checked-variable = at-checked-variable2 .before .before in
+    let entry = at-checked-variable .before .before .before in
+    difference-fields (entry .args .file .now) (entry .args .at) (entry .pre .0) (at-checked-variable .checked-variable .ensures) (at-checked-variable2 .checked-variable2 .ensures) (c .checked-variable3 .ensures)
 
 pub difference-fields-spec : {M : Type 1} → statement M
 difference-fields-spec =
@@ -48,7 +76,10 @@ difference-fields-spec =
     add-y
     add-z
     add-next
-    shared-slice-read-t8
-    shared-slice-read-t10
-    shared-slice-read-t12
+    shared-slice-read-checked-variable
+    checked-variable-requires
+    shared-slice-read-checked-variable-2
+    checked-variable-requires-2
+    shared-slice-read-checked-variable-3
+    checked-variable-requires-3
     returns)

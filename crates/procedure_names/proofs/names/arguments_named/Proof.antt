@@ -1,9 +1,10 @@
-use Rattle.procedure_names.specs.NamedLaws.{argumentsLeft, argument-on, argument-wrong, arguments-done, arguments-start, variable-is, variable-none}
+use Rattle.procedure_names.specs.NamedLaws.{argumentsLeft, argument-on, argument-wrong, arguments-done, arguments-start}
+use Rattle.procedure_operations.specs.NumbersLaws.{variable-is, variable-none}
 use lib.ListN.{length}
 use Prim.Native.Nat.{_+_, _-_, _≤_}
 use native.Mathlib.Omega.{arith}
 use borrow.Author.Needs.{needs}
-use mathlib.Core.Path.{_≡_, refl, sym, _∙_}
+use mathlib.Core.Path.{_≡_, refl, _∙_}
 use Rattle.procedure_names.proofs.names.arguments_named.Statement.{statement}
 use Rattle.procedure_names.proofs.names.arguments_named.Tie as tie
 
@@ -49,7 +50,7 @@ loop-again c =
       omega (arith, i .1),
       i .2,
       argument-on (entry .args .file .now) (entry .args .variables) (entry .args .at) (entry .args .count) (entry .pre) (at-loop .loop .place) (i .1)
-          (omega (arith, i .2, at-loop-test .loop-test .taken)) (variable-is _ _ _ (sym (c .before .before .variable-number .ensures) ∙ c .enum-told .given .1)) ∙ i .3,
+          (omega (arith, i .2, at-loop-test .loop-test .taken)) (variable-is _ _ _ (c .before .before .variable-number .ensures) _ (c .enum-told .given .1) .1) ∙ i .3,
     )
 
 enum-told-2 : tie.Need-enum-told-2 Inv-loop μ-loop
@@ -62,7 +63,7 @@ returns c =
     let entry = at-loop .before .before in
     let i = at-loop .loop .inv in
     argument-wrong (entry .args .file .now) (entry .args .variables) (entry .args .at) (entry .args .count) (entry .pre) (at-loop .loop .place) (i .1)
-    (omega (arith, i .2, at-loop-test .loop-test .taken)) (variable-none _ _ (sym (c .before .before .variable-number .ensures) ∙ c .enum-told2 .given .1)) ∙ i .3 ∙ arguments-start
+    (omega (arith, i .2, at-loop-test .loop-test .taken)) (variable-none _ _ _ (c .before .before .variable-number .ensures) (c .enum-told2 .given .1)) ∙ i .3 ∙ arguments-start
     (entry .args .file .now) (entry .args .variables) (entry .args .at) (entry .args .count) (entry .pre)
 
 returns-2 : tie.Need-returns-2 Inv-loop μ-loop

@@ -1,8 +1,8 @@
-use Rattle.procedure_names.specs.NamedLaws.{function-is, function-none, callee-none, callee-right, callee-wrong}
+use Rattle.procedure_names.specs.NamedLaws.{callee-none, callee-right, callee-wrong}
+use Rattle.procedure_operations.specs.NumbersLaws.{function-is, function-none}
 use lib.ListN.{length}
 use Prim.Native.Nat.{_+_}
 use native.Mathlib.Omega.{arith}
-use mathlib.Core.Path.{sym, _∙_}
 use borrow.Author.Needs.{needs}
 use Rattle.procedure_names.proofs.names.callee_named.Statement.{statement}
 use Rattle.procedure_names.proofs.names.callee_named.Tie as tie
@@ -27,14 +27,14 @@ arity-of-requires c κs =
     let at-callee = c .before in
     let at-function-number = at-callee .before .before in
     let entry = at-function-number .before .before in
-    let f = (function-is (entry .args .g) (length (entry .args .params .now)) (at-callee .callee .given .0 .0) (sym (at-function-number .function-number .ensures) ∙ at-callee .callee .given .1)) in
+    let f = (function-is (entry .args .g) (length (entry .args .params .now)) _ (at-function-number .function-number .ensures) (at-callee .callee .given .0 .0) (at-callee .callee .given .1)) in
     omega (arith, f .0, f .1)
 
 returns : tie.Need-returns
 returns c =
     let entry = c .before .before .before .before in
     callee-none (entry .args .params .now) (entry .args .at + 2) (entry .args .at + 3) (entry .args .g) (entry .args .count)
-    (function-none (entry .args .g) (length (entry .args .params .now)) (sym (c .before .before .function-number .ensures) ∙ c .enum-told .given .1))
+    (function-none (entry .args .g) (length (entry .args .params .now)) _ (c .before .before .function-number .ensures) (c .enum-told .given .1))
 
 returns-2 : tie.Need-returns-2
 returns-2 c =
@@ -42,7 +42,7 @@ returns-2 c =
     let at-function-number = at-callee .before .before in
     let entry = at-function-number .before .before in
     callee-right (entry .args .params .now) (entry .args .at + 2) (entry .args .at + 3) (entry .args .g) (entry .args .count) _ _
-    (function-is (entry .args .g) (length (entry .args .params .now)) (at-callee .callee .given .0 .0) (sym (at-function-number .function-number .ensures) ∙ at-callee .callee .given .1))
+    (function-is (entry .args .g) (length (entry .args .params .now)) _ (at-function-number .function-number .ensures) (at-callee .callee .given .0 .0) (at-callee .callee .given .1))
     (c .before .arity-of .ensures) (c .if1 .taken)
 
 returns-3 : tie.Need-returns-3
@@ -51,7 +51,7 @@ returns-3 c =
     let at-function-number = at-callee .before .before in
     let entry = at-function-number .before .before in
     callee-wrong (entry .args .params .now) (entry .args .at + 2) (entry .args .at + 3) (entry .args .g) (entry .args .count) _ _
-    (function-is (entry .args .g) (length (entry .args .params .now)) (at-callee .callee .given .0 .0) (sym (at-function-number .function-number .ensures) ∙ at-callee .callee .given .1))
+    (function-is (entry .args .g) (length (entry .args .params .now)) _ (at-function-number .function-number .ensures) (at-callee .callee .given .0 .0) (at-callee .callee .given .1))
     (c .before .arity-of .ensures) (c .if1 .left)
 
 pub callee-named-spec : {M : Type 1} → statement M
