@@ -11,15 +11,16 @@ use Rattle.semantics.specs.Extras.{extras}
 use Rattle.parsing.specs.declared.Refusal.{Refusal}
 use Rattle.parsing.specs.declared.Checked.the-variants.{Refused}
 use Rattle.parsing.specs.Parser.{Verdict, verdictOf, orElse}
-use Rattle.memory.specs.Call.{callVerdict}
-use Rattle.memory.specs.Frame.{frameAt}
+use Rattle.memory.specs.Call.{maxDepth, callVerdict}
+use Rattle.memory.specs.Frame.{frameSize, frameAt}
 use Rattle.runs.specs.declared.Stopped.the-variants.{Spent}
 use Rattle.runs.specs.Stopped.{stoppedAs}
 use Rattle.runs.specs.Tells.{Tells, tells, tellsBy, toldOf, ChangedBy}
 use Rattle.runs.specs.Words.{WordsAfter}
+use Rattle.procedure_layout.specs.Layout.{maxVariables}
 use Rattle.procedure_file.specs.Check.{checkOf, programOf}
 use Rattle.procedure_file.specs.FileInvariant.{Stands}
-use Rattle.bench_step.specs.Machine.{framesOf, stateOf, FrameStands}
+use Rattle.bench_frames.specs.Machine.{framesOf, stateOf, FrameStands}
 use Rattle.bench.specs.declared.machine.Answer.{Answer}
 use Rattle.bench.specs.RunResult.{zeroRegs, ZeroAtEnd}
 
@@ -82,7 +83,7 @@ refusedAnswer r =
       steps = 0;
       extras = 0;
       regs = zeroRegs 0;
-      vars = replicate 32 (pos 0);
+      vars = replicate maxVariables (pos 0);
     }
 
 -- ── What the run of a loaded file is asked, and what it gives ───────────────────────────────────
@@ -91,8 +92,8 @@ refusedAnswer r =
 pub record CallFits (s : List ℕ) (f : FunctionNumber) (args : List ℤ) (depth : ℕ) (words : List ℤ) : Type 0 where
   pub exists : f < length (programOf s)
   pub arguments : length args ≡ functionOf (programOf s) f .params
-  pub depthBound : depth ≤ 256
-  pub room : 48 * depth ≤ length words
+  pub depthBound : depth ≤ maxDepth
+  pub room : frameSize * depth ≤ length words
 
 -- The answer of a run from function f.
 pub record RunAnswered (s : List ℕ) (f : FunctionNumber) (args : List ℤ) (depth budget : ℕ) (a : Answer) (words words′ : List ℤ) : Type 0 where

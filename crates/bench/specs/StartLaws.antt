@@ -16,7 +16,6 @@ use Rattle.semantics.specs.Theorem.{start-wellFormed}
 use Rattle.parsing.specs.declared.Checked.the-variants.{Accepted}
 use Rattle.memory.specs.Lay.{lay}
 use Rattle.memory.specs.LayLaws.{length-lay}
-use Rattle.memory.specs.Frame.{frameAt}
 use Rattle.memory.specs.FrameLaws.{frame-same}
 use Rattle.runs.specs.Stopped.{stoppedAs, inUse}
 use Rattle.runs.specs.Tells.{tells, toldOf}
@@ -25,10 +24,9 @@ use Rattle.procedure_layout.specs.Rest.{restAt}
 use Rattle.procedure_file.specs.Check.{programOf}
 use Rattle.procedure_file.specs.Places.{startOf}
 use Rattle.procedure_file.specs.FileInvariant.{FileInvariant, Stands}
-use Rattle.bench_step.specs.declared.step.Regs.{Regs}
-use Rattle.bench_step.specs.Machine.{functionAt, varsOf, framesOf, stateOf, FrameStands, Invariant}
-use Rattle.bench_step.specs.StepLaws.{length-frames}
-use Rattle.bench_step.specs.FrameStepLaws.{frames-same}
+use Rattle.bench_frames.specs.declared.registers.Regs.{Regs}
+use Rattle.bench_frames.specs.Machine.{functionAt, varsOf, framesOf, stateOf, FrameStands, Invariant}
+use Rattle.bench_frames.specs.StateLaws.{length-frames, frames-same}
 use Rattle.bench.specs.declared.machine.Ran.{Ran}
 use Rattle.bench.specs.declared.machine.Answer.{Answer}
 use Rattle.bench.specs.RunResult.{ZeroAtEnd, Reached, StoppedAt, RunResult}

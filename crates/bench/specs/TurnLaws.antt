@@ -21,10 +21,10 @@ use Rattle.runs.specs.Stopped.{endAs}
 use Rattle.runs.specs.Tells.{toldOf}
 use Rattle.procedure_file.specs.Check.{programOf}
 use Rattle.procedure_file.specs.FileInvariant.{FileInvariant}
-use Rattle.bench_step.specs.declared.step.Regs.{Regs}
-use Rattle.bench_step.specs.declared.step.Step.{Step}
-use Rattle.bench_step.specs.declared.step.Step.the-variants.{Next, Ended, Deep}
-use Rattle.bench_step.specs.Machine.{functionAt, stateOf, Invariant, StepResult}
+use Rattle.bench_frames.specs.declared.registers.Regs.{Regs}
+use Rattle.bench_frames.specs.declared.registers.Step.{Step}
+use Rattle.bench_frames.specs.declared.registers.Step.the-variants.{Next, Ended, Deep}
+use Rattle.bench_frames.specs.Machine.{functionAt, stateOf, Invariant, StepResult}
 use Rattle.bench.specs.RunResult.{zeroRegs, Reached, StoppedAt, RunResult}
 
 -- No function has more than 24 locals; one that is not there has none.

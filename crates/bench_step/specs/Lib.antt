@@ -1,7 +1,3 @@
--- One step of the bench. Definition: Machine (what registers and words stand for, what holds between steps, what a step gives).
-pub mod Machine
--- Laws: of the operations that stand in a file, of the operations that read no frame, of return and raise, of a call.
-pub mod StandsLaws
+-- One step of the bench. Laws: of an operation's number, of the operations that touch no frame.
+pub mod NumberLaws
 pub mod StepLaws
-pub mod FrameStepLaws
-pub mod CallLaws

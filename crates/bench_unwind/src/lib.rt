@@ -1,0 +1,2 @@
+// Return and raise: what leaves frames.
+pub mod unwind;

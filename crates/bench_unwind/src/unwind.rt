@@ -1,0 +1,156 @@
+// Return and raise: what leaves frames.
+use bench_frames::registers::Regs;
+use bench_frames::registers::Step;
+use casts::byte_number;
+use memory::FRAME_SIZE;
+use memory::copy;
+use memory::head_at;
+use procedure_file::table::handler_of;
+use procedure_file::table::start_of;
+use procedure_layout::layout::MAX_VARIABLES;
+use procedure_operations::numbers::VariableNumber;
+use procedure_operations::operation::Operation;
+use runs::End;
+ghost use mathlib.Core.Path.{_≡_};
+ghost use Prim.Native.Nat.{_<_};
+ghost use lib.ListN.{length};
+ghost use Rattle.semantics.specs.WellFormed.{IsLabel};
+ghost use Rattle.semantics.specs.Matching.{newestGuarded};
+ghost use Rattle.procedure_operations.specs.Operation.{operationAt};
+ghost use Rattle.procedure_file.specs.Check.{programOf};
+ghost use Rattle.procedure_file.specs.Loaded.{Tabled, Loaded};
+ghost use Rattle.procedure_file.specs.FileInvariant.{FileInvariant};
+ghost use Rattle.bench_frames.specs.Machine.{functionAt, startRegs, framesOf, Invariant, StepResult};
+
+// The start of the block with label l, which is not 0, of function f.
+pub fn entered(
+    file: &[u8],
+    starts: &[u16; 2048],
+    f: usize,
+    l: usize,
+    waiting: usize,
+    extras: u64,
+) -> Regs
+    requires { ⌜ Tabled (now file) (now starts) ⌝ }
+    requires { ⌜ (f < length (programOf (now file))) × IsLabel (length (functionAt (now file) f .blocks)) l ⌝ }
+    ensures { λ r. ⌜ r ≡ startRegs (now (file .entry)) f l waiting extras ⌝ }
+{
+    let handler = byte_number(handler_of(file, starts, f, l));
+    let at = start_of(file, starts, f, l);
+    Regs {
+        function: f,
+        handler: handler,
+        at: at,
+        waiting: waiting,
+        extras: extras,
+    }
+}
+
+// 6 return. A frame has room for 32 variables, and all are copied: behind those of its function nothing is promised.
+pub fn return_step(
+    file: &[u8],
+    limit: usize,
+    r: Regs,
+    vars: &mut [i32; 32],
+    words: &[i32],
+    variable: VariableNumber,
+    next: usize,
+) -> Step
+    requires { ⌜ FileInvariant (now file) ⌝ }
+    requires { ⌜ Invariant (now file) limit r (now vars) (now words) ⌝ }
+    requires { ⌜ operationAt (now file) (r .at) ≡ Operation.Return (variable .0) next ⌝ }
+    ensures { λ x. ⌜ StepResult (now (file .entry)) limit r (now (vars .entry)) (now (words .entry)) x (now (vars .exit)) (now (words .entry)) ⌝ }
+{
+    let x = variable.index();
+    let v = vars[x];
+    let w = r.waiting;
+    if w == 0 {
+        return Step::Ended(End::Value(v));
+    }
+    let d = w - 1;
+    let h = head_at(words, d);
+    let f = h.word0;
+    let from = FRAME_SIZE * d + 4;
+    copy(words, from, vars, 0, MAX_VARIABLES);
+    let result = h.word3;
+    vars[result] = v;
+    Step::Next(Regs {
+        function: f,
+        handler: h.word1,
+        at: h.word2,
+        waiting: d,
+        extras: r.extras,
+    })
+}
+
+// The newest frame with a handler, by its count from the oldest; 0 where there is none.
+fn guarded(file: &[u8], limit: usize, r: Regs, vars: &[i32; 32], words: &[i32]) -> usize
+    requires { ⌜ Invariant (now file) limit r (now vars) (now words) ⌝ }
+    ensures { λ k. ⌜ k ≡ newestGuarded (framesOf (now (file .entry)) (now (words .entry)) (r .waiting)) ⌝ }
+{
+    let mut w = r.waiting;
+    while 0 < w {
+        let d = w - 1;
+        let h = head_at(words, d);
+        if h.word1 != 0 {
+            return w;
+        }
+        w = d;
+    }
+    w
+}
+
+// The handler of the newest frame that has one, the k-th oldest.
+fn caught_step(
+    file: &[u8],
+    starts: &[u16; 2048],
+    limit: usize,
+    r: Regs,
+    vars: &mut [i32; 32],
+    words: &[i32],
+    next: usize,
+    k: usize,
+) -> Step
+    requires { ⌜ Loaded (now file) (now starts) ⌝ }
+    requires { ⌜ Invariant (now file) limit r (now vars) (now words) ⌝ }
+    requires { ⌜ operationAt (now file) (r .at) ≡ Operation.Raise next ⌝ }
+    requires { ⌜ r .extras < 9223372036854775808 ⌝ }
+    requires { ⌜ (r .handler ≡ 0) × (k ≡ newestGuarded (framesOf (now file) (now words) (r .waiting))) × (0 < k) ⌝ }
+    ensures { λ x. ⌜ StepResult (now (file .entry)) limit r (now (vars .entry)) (now (words .entry)) x (now (vars .exit)) (now (words .entry)) ⌝ }
+{
+    let d = k - 1;
+    let h = head_at(words, d);
+    let f = h.word0;
+    let from = FRAME_SIZE * d + 4;
+    copy(words, from, vars, 0, MAX_VARIABLES);
+    let l = h.word1;
+    let extras = r.extras + 1;
+    Step::Next(entered(file, starts, f, l, d, extras))
+}
+
+// 8 raise
+pub fn raise_step(
+    file: &[u8],
+    starts: &[u16; 2048],
+    limit: usize,
+    r: Regs,
+    vars: &mut [i32; 32],
+    words: &[i32],
+    next: usize,
+) -> Step
+    requires { ⌜ Loaded (now file) (now starts) ⌝ }
+    requires { ⌜ Invariant (now file) limit r (now vars) (now words) ⌝ }
+    requires { ⌜ operationAt (now file) (r .at) ≡ Operation.Raise next ⌝ }
+    requires { ⌜ r .extras < 9223372036854775808 ⌝ }
+    ensures { λ x. ⌜ StepResult (now (file .entry)) limit r (now (vars .entry)) (now (words .entry)) x (now (vars .exit)) (now (words .entry)) ⌝ }
+{
+    let h = r.handler;
+    if h != 0 {
+        return Step::Next(entered(file, starts, r.function, h, r.waiting, r.extras));
+    }
+    let k = guarded(file, limit, r, vars, words);
+    if k == 0 {
+        return Step::Ended(End::Uncaught);
+    }
+    caught_step(file, starts, limit, r, vars, words, next, k)
+}
