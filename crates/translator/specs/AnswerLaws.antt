@@ -14,8 +14,8 @@ use Rattle.parsing.specs.declared.Checked.{Checked}
 use Rattle.parsing.specs.declared.Checked.the-variants.{Accepted, Refused}
 use Rattle.parsing.specs.Parser.{Verdict, accepted, verdictOf, orElse}
 use Rattle.parsing.specs.VerdictLaws.{or-accepted, unless-accepted}
+use Rattle.target_tags.specs.Tag.{fileLimit}
 use Rattle.runs.specs.Tells.{Tells, refuses, tells, tellsBy}
-use Rattle.target_layout.specs.Layout.{fileLimit}
 use Rattle.translator.specs.Translated.{translationOf, roomVerdict, leaves}
 use Rattle.translator_bytes.specs.Writes.{Room, Wrote}
 

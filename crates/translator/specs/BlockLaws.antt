@@ -1,29 +1,29 @@
 -- The turns of the loop that writes a block's operations.
-use Prim.Native.Nat.{ℕ, _+_, _≤_, _<_}
+use Prim.Native.Nat.{ℕ, _≤_, _<_}
 use native.Mathlib.Omega.{arith}
 use mathlib.Core.Path.{_≡_, refl, sym, ap, _∙_, subst}
-use mathlib.Core.List.{List, [], _∷_, _++_}
-use lib.ListN.{length}
+use mathlib.Core.List.{List, _++_}
+use mathlib.Core.Logic.{_≢_}
+use lib.ListN.{length, getD}
 use Rattle.parsing.specs.declared.Refusal.{Refusal}
-use lib.IntN.{ℤ}
-use Rattle.parsing.specs.Fields.{valueAt}
-use Rattle.parsing.specs.Bytes.{valueBytes}
 use Rattle.semantics.specs.Translation.{number}
 use Rattle.procedure_operations.specs.declared.operation.Operation.{Operation}
 use Rattle.procedure_operations.specs.declared.operation.Operation.the-variants.{Constant, Copy, Difference, Call, Goto, Return, Branch, Raise, Refused}
 use Rattle.procedure_layout.specs.declared.layout.After.{After}
 use Rattle.procedure_layout.specs.declared.layout.After.the-variants.{Onward, Ended, Halted}
-use Rattle.procedure_operations.specs.Operation.{operationAt}
+use Rattle.procedure_operations.specs.Operation.{operationAt, argumentsAt}
+use Rattle.procedure_operations.specs.Ranges.{NumbersInRange}
+use Rattle.procedure_fields.specs.Number.{numberOf, countOf}
+use Rattle.procedure_fields.specs.NumberLaws.{number-known, raise-known}
 use Rattle.procedure_layout.specs.After.{afterOf}
 use Rattle.procedure_file.specs.Check.{programOf}
 use Rattle.translator_bytes.specs.Bytes.{tabled, operationBytes}
 use Rattle.translator_sizes.specs.Parts.{bytesAt}
-use Rattle.translator_bytes.specs.Writes.{Room, Wrote}
+use Rattle.translator_bytes.specs.Writes.{Room, Wrote, CallStands}
 use Rattle.translator_bytes.specs.WriteLaws.{Rest, rest-none, rest-as, rest-more, rest-done, room-front}
 use Rattle.translator.specs.Standing.{Numbered, Placed}
 use Rattle.translator_sizes.specs.OperationLaws.{Fine, fine, following, split-at}
 use Rattle.translator_sizes.specs.CountLaws.{goes-on, never-halts}
-use Rattle.procedure_layout.specs.Layout.{argumentsAt}
 use Rattle.translator_bytes.specs.Bytes.{callBytes}
 
 -- The table gives the same bytes as the translation's numbers.
@@ -32,7 +32,7 @@ pub same-numbers : (s ns : List ℕ) → Numbered s ns → (base v h at : ℕ) (
 same-numbers s ns N base v h at (Constant x i next) f = refl
 same-numbers s ns N base v h at (Copy x y next) f = refl
 same-numbers s ns N base v h at (Difference x y z next) f = refl
-same-numbers s ns N base v h at (Call x g n next) f = ap (λ (k : ℕ). callBytes base v h x k n (argumentsAt s at n)) (N g (f .1))
+same-numbers s ns N base v h at (Call x g n next) f = ap (λ (k : ℕ). callBytes base v h x k n (argumentsAt s at n)) (N g (f .0))
 same-numbers s ns N base v h at (Goto l next) f = refl
 same-numbers s ns N base v h at (Return x next) f = refl
 same-numbers s ns N base v h at (Branch y z l m next) f = refl
@@ -48,27 +48,25 @@ pub turn-none : {s ns : List ℕ} {base v h start o : ℕ} {d : List ℕ} → Pl
     → Turn s ns base v h start o d start o d
 turn-none P R = record { placed = P; rest = rest-none R }
 
-module _ {s ns : List ℕ} {base v h start o₀ : ℕ} {d₀ : List ℕ} {at o : ℕ} {d : List ℕ} (T : Turn s ns base v h start o₀ d₀ at o d)
-    {x : Operation} (e : x ≡ operationAt s at) where
+module _ {s ns : List ℕ} {base v h start o₀ : ℕ} {d₀ : List ℕ} {at o : ℕ} {d : List ℕ} (T : Turn s ns base v h start o₀ d₀ at o d) where
   -- What the operation becomes, and what follows.
-  parts : bytesAt s base v h at ≡ operationBytes (tabled ns) base v h s at x ++ following (afterOf (operationAt s at)) (λ m. bytesAt s base v h m)
+  parts : bytesAt s base v h at ≡ operationBytes (tabled ns) base v h s at (operationAt s at) ++ following (afterOf (operationAt s at)) (λ m. bytesAt s base v h m)
   parts =
       let H = T .placed .here in
       split-at base h H
-      ∙ (ap (λ (w : List ℕ). w ++ following (afterOf (operationAt s at)) (λ m. bytesAt s base v h m)) (sym (same-numbers s ns (T .placed .numbered) base v h at (operationAt s at) (fine H)))
-      ∙ ap (λ (y : Operation). operationBytes (tabled ns) base v h s at y ++ following (afterOf (operationAt s at)) (λ m. bytesAt s base v h m)) (sym e))
+      ∙ ap (λ (w : List ℕ). w ++ following (afterOf (operationAt s at)) (λ m. bytesAt s base v h m)) (sym (same-numbers s ns (T .placed .numbered) base v h at (operationAt s at) (fine H)))
 
-  pub turn-room : Room o (operationBytes (tabled ns) base v h s at x) d
-  turn-room = room-front (operationBytes (tabled ns) base v h s at x) (following (afterOf (operationAt s at)) (λ m. bytesAt s base v h m)) (rest-as (T .rest) _ parts)
+  pub turn-room : Room o (operationBytes (tabled ns) base v h s at (operationAt s at)) d
+  turn-room = room-front (operationBytes (tabled ns) base v h s at (operationAt s at)) (following (afterOf (operationAt s at)) (λ m. bytesAt s base v h m)) (rest-as (T .rest) _ parts)
 
-  module _ {r : ℕ} {d′ : List ℕ} (W : Wrote o (operationBytes (tabled ns) base v h s at x) d r d′) {a : After} (ea : a ≡ afterOf x) where
+  module _ {r : ℕ} {d′ : List ℕ} (W : Wrote o (operationBytes (tabled ns) base v h s at (operationAt s at)) d r d′) {x : Operation} (e : x ≡ operationAt s at) {a : After} (ea : a ≡ afterOf x) where
     after-is : afterOf (operationAt s at) ≡ a
     after-is = ap afterOf (sym e) ∙ sym ea
 
     rest-is : Rest o₀ (bytesAt s base v h start) d₀ r (following a (λ m. bytesAt s base v h m)) d′
     rest-is =
         subst (λ (b : After). Rest o₀ (bytesAt s base v h start) d₀ r (following b (λ m. bytesAt s base v h m)) d′) after-is
-        (rest-more (T .rest) (operationBytes (tabled ns) base v h s at x) (following (afterOf (operationAt s at)) (λ m. bytesAt s base v h m)) parts W)
+        (rest-more (T .rest) (operationBytes (tabled ns) base v h s at (operationAt s at)) (following (afterOf (operationAt s at)) (λ m. bytesAt s base v h m)) parts W)
 
     pub turn-next : {m : ℕ} → a ≡ Onward m → Turn s ns base v h start o₀ d₀ m r d′
     turn-next {m} q =
@@ -87,9 +85,35 @@ module _ {s ns : List ℕ} {base v h start o₀ : ℕ} {d₀ : List ℕ} {at o :
     pub turn-never : {f : Refusal} {A : Type 0} → a ≡ Halted f → A
     turn-never q = never-halts (T .placed .here) (after-is ∙ q)
 
+-- A number from 1 to 8 that is none of 1 to 7.
+fourth : {k : ℕ} → 1 ≤ k → k ≢ 1 → k ≢ 2 → k ≢ 3 → 4 ≤ k
+fourth l a b c = omega arith
+
+eighth : {k : ℕ} → 4 ≤ k → k ≤ 8 → k ≢ 4 → k ≢ 5 → k ≢ 6 → k ≢ 7 → k ≡ 8
+eighth l u d f g h = omega arith
+
 -- The arm of an operation.
-pub arm-fine : {s ns : List ℕ} {base v at : ℕ} {x y : Operation} → Placed s ns base v at → x ≡ operationAt s at → x ≡ y → Fine s at y
-arm-fine {s} {at = at} P e q = subst (Fine s at) (sym e ∙ q) (fine (P .here))
+module _ {s ns : List ℕ} {base v at : ℕ} (P : Placed s ns base v at) where
+  pub arm-numbers : {y : Operation} → operationAt s at ≡ y → NumbersInRange s at y
+  arm-numbers {y} e = let H = P .here in H .invariant .numbers (H .function) at y (H .stands) e
+
+  pub arm-number : (1 ≤ numberOf (operationAt s at)) × (numberOf (operationAt s at) ≤ 8)
+  arm-number = let H = P .here in number-known (operationAt s at) (λ r. H .invariant .operation (H .function) at r (H .stands))
+
+  -- The last arm.
+  pub arm-raise : {k : ℕ} → k ≡ numberOf (operationAt s at) → k ≢ 1 → k ≢ 2 → k ≢ 3 → k ≢ 4 → k ≢ 5 → k ≢ 6 → k ≢ 7 → (next : ℕ) × (operationAt s at ≡ Raise next)
+  arm-raise {k} e a b c d f g h = raise-known (operationAt s at) (sym e ∙ eighth (fourth (omega (arith, arm-number .0)) a b c) (omega (arith, arm-number .1)) d f g h)
+
+  module _ {x g n m : ℕ} (e : operationAt s at ≡ Call x g n m) where
+    fine-call : Fine s at (Call x g n m)
+    fine-call = subst (Fine s at) e (fine (P .here))
+
+    pub call-stands : CallStands s at n
+    unfolding countOf
+    call-stands = record { count = sym (ap countOf e); long = fine-call .2; numbers = arm-numbers refl }
+
+    pub call-count : n ≤ 32
+    call-count = fine-call .1
 
 module _ (s ns : List ℕ) (base v h at : ℕ) {x y : Operation} (q : x ≡ y) where
   pub arm-room : {o : ℕ} {d : List ℕ} → Room o (operationBytes (tabled ns) base v h s at x) d → Room o (operationBytes (tabled ns) base v h s at y) d
@@ -98,6 +122,6 @@ module _ (s ns : List ℕ) (base v h at : ℕ) {x y : Operation} (q : x ≡ y) w
   pub arm-wrote : {o r : ℕ} {d d′ : List ℕ} → Wrote o (operationBytes (tabled ns) base v h s at y) d r d′ → Wrote o (operationBytes (tabled ns) base v h s at x) d r d′
   arm-wrote {o} {r} {d} {d′} W = subst (λ (z : Operation). Wrote o (operationBytes (tabled ns) base v h s at z) d r d′) (sym q) W
 
--- The bytes of a constant's value stand in the file.
-pub constant-bytes : (s : List ℕ) (at x : ℕ) {i : ℤ} → i ≡ valueAt s (at + 2) → _≡_ {A = List ℕ} ((1 ∷ (x + 2) ∷ []) ++ valueBytes i) ((1 ∷ (x + 2) ∷ []) ++ valueBytes (valueAt s (at + 2)))
-constant-bytes s at x e = ap (λ (z : ℤ). (1 ∷ (x + 2) ∷ []) ++ valueBytes z) e
+-- A callee's number, read at the index i that its function has.
+pub callee-is : (base v h x n g i k : ℕ) (ns ys : List ℕ) → i ≡ g → k ≡ getD ns i 0 → callBytes base v h x (tabled ns g) n ys ≡ callBytes base v h x k n ys
+callee-is base v h x n g i k ns ys e q = ap (λ (j : ℕ). callBytes base v h x j n ys) (ap (λ (j : ℕ). getD ns j 0) (sym e) ∙ sym q)

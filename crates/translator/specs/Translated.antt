@@ -7,9 +7,9 @@ use lib.ListN.{length, drop}
 use Rattle.semantics.specs.Translation.{translate}
 use Rattle.parsing.specs.Refusals.{noRoom, translationTooLong}
 use Rattle.parsing.specs.Parser.{Verdict, accepted, refused, orElse, refusedUnless}
+use Rattle.target_tags.specs.Tag.{fileLimit}
 use Rattle.runs.specs.Tells.{Tells, refuses, tells, tellsBy}
 use Rattle.procedure_file.specs.Check.{checkOf, programOf}
-use Rattle.target_layout.specs.Layout.{fileLimit}
 use Rattle.target_file.specs.Writing.{writing}
 use Rattle.translator.specs.declared.Translated.{Translated}
 use Rattle.translator.specs.declared.Translated.the-variants.{Written, Refused}

@@ -1,17 +1,23 @@
 // A block's operations, translated one behind the other.
 use casts::offset_number;
+use procedure_fields::fields::CallFields;
+use procedure_fields::fields::branch_fields;
+use procedure_fields::fields::call_fields;
+use procedure_fields::fields::constant_bytes;
+use procedure_fields::fields::copy_fields;
+use procedure_fields::fields::difference_fields;
+use procedure_fields::fields::goto_fields;
+use procedure_fields::fields::number_at;
+use procedure_fields::fields::return_fields;
 use procedure_layout::layout::After;
 use procedure_layout::layout::after_of;
 use procedure_operations::operation::Operation;
 use procedure_operations::operation::operation_at;
 use translator_bytes::jumps;
 ghost use mathlib.Core.Path.{_≡_};
-ghost use Prim.Native.Nat.{_+_, _<_, _≤_};
-ghost use Rattle.procedure_operations.specs.Operation.{operationAt};
+ghost use Rattle.procedure_operations.specs.Operation.{operationAt, argumentsAt};
 ghost use Rattle.translator_bytes.specs.Writes.{Room, Wrote};
 ghost use Rattle.translator_bytes.specs.Bytes.{tabled, callBytes, operationBytes};
-ghost use Rattle.translator_bytes.specs.Writes.{Arguments};
-ghost use Rattle.procedure_layout.specs.Layout.{maxFunctions, maxVariables, argumentsAt};
 ghost use Rattle.translator_sizes.specs.Parts.{bytesAt};
 ghost use Rattle.translator.specs.Standing.{Placed};
 
@@ -23,23 +29,21 @@ fn put_called(
     v: u8,
     h: u8,
     at: usize,
-    x: u8,
-    f: u8,
-    n: u8,
+    x: CallFields,
     out: &mut [u8],
     o: usize,
 ) -> usize
-    requires { ⌜ (base ≤ 2048) × (v ≤ maxVariables) × (x < maxVariables) × (n ≤ maxVariables) × (f < maxFunctions) × Arguments (now file) (at + 4) n ⌝ }
-    requires { ⌜ Room o (callBytes base v h x (tabled (now numbers) f) n (argumentsAt (now file) at n)) (now out) ⌝ }
-    ensures { λ r. ⌜ Wrote o (callBytes base v h x (tabled (now (numbers .entry)) f) n (argumentsAt (now (file .entry)) at n)) (now (out .entry)) r (now (out .exit)) ⌝ }
+    requires { ⌜ Placed (now file) (now numbers) base v at × (operationAt (now file) at ≡ Operation.Call (x .target .0) (x .function .0) (x .count) (x .next)) ⌝ }
+    requires { ⌜ Room o (callBytes base v h (x .target .0) (tabled (now numbers) (x .function .0)) (x .count) (argumentsAt (now file) at (x .count))) (now out) ⌝ }
+    ensures { λ r. ⌜ Wrote o (callBytes base v h (x .target .0) (tabled (now (numbers .entry)) (x .function .0)) (x .count) (argumentsAt (now (file .entry)) at (x .count))) (now (out .entry)) r (now (out .exit)) ⌝ }
 {
-    let i = f as usize;
-    let from = at + 4;
+    let callee = x.function;
+    let i = callee.index();
     let g = offset_number(numbers[i]);
-    jumps::put_call(file, from, out, o, base, v, h, x, g, n)
+    jumps::put_call(file, at, out, o, base, v, h, x.target, g, x.count)
 }
 
-// What one operation becomes, before the rest of its block.
+// What the operation at an offset becomes, before the rest of its block.
 fn put_operation(
     file: &[u8],
     numbers: &[u16; 32],
@@ -47,52 +51,41 @@ fn put_operation(
     v: u8,
     h: u8,
     at: usize,
-    x: Operation,
     out: &mut [u8],
     o: usize,
 ) -> usize
-    requires { ⌜ Placed (now file) (now numbers) base v at × (x ≡ operationAt (now file) at) ⌝ }
-    requires { ⌜ Room o (operationBytes (tabled (now numbers)) base v h (now file) at x) (now out) ⌝ }
-    ensures { λ r. ⌜ Wrote o (operationBytes (tabled (now (numbers .entry))) base v h (now (file .entry)) at x) (now (out .entry)) r (now (out .exit)) ⌝ }
+    requires { ⌜ Placed (now file) (now numbers) base v at ⌝ }
+    requires { ⌜ Room o (operationBytes (tabled (now numbers)) base v h (now file) at (operationAt (now file) at)) (now out) ⌝ }
+    ensures { λ r. ⌜ Wrote o (operationBytes (tabled (now (numbers .entry))) base v h (now (file .entry)) at (operationAt (now (file .entry)) at)) (now (out .entry)) r (now (out .exit)) ⌝ }
 {
-    match x {
-        Operation::Constant { target, .. } => jumps::put_constant(file, at + 2, out, o, target),
-        Operation::Copy { target, from, .. } => jumps::put_copy(out, o, target, from),
-        Operation::Difference {
-            target,
-            left,
-            right,
-            ..
-        } => jumps::put_difference(out, o, target, left, right),
-        Operation::Call {
-            target,
-            function,
-            count,
-            ..
-        } => put_called(
-            file,
-            numbers,
-            base,
-            v,
-            h,
-            at,
-            target,
-            function,
-            count,
-            out,
-            o,
-        ),
-        Operation::Goto { label, .. } => jumps::put_label_jump(out, o, base, v, label),
-        Operation::Return { variable, .. } => jumps::put_return(out, o, variable),
-        Operation::Branch {
-            left,
-            right,
-            least,
-            other,
-            ..
-        } => jumps::put_branch(out, o, base, v, left, right, least, other),
-        Operation::Raise { .. } => jumps::put_raise(out, o, base, v, h),
-        Operation::Refused(_) => o,
+    let number = number_at(file, at);
+    match number {
+        1 => jumps::put_constant(out, o, constant_bytes(file, at)),
+        2 => {
+            let x = copy_fields(file, at);
+            jumps::put_copy(out, o, x.target, x.from)
+        }
+        3 => {
+            let x = difference_fields(file, at);
+            jumps::put_difference(out, o, x.target, x.left, x.right)
+        }
+        4 => {
+            let x = call_fields(file, at);
+            put_called(file, numbers, base, v, h, at, x, out, o)
+        }
+        5 => {
+            let x = goto_fields(file, at);
+            jumps::put_label_jump(out, o, base, v, x.label)
+        }
+        6 => {
+            let x = return_fields(file, at);
+            jumps::put_return(out, o, x.variable)
+        }
+        7 => {
+            let x = branch_fields(file, at);
+            jumps::put_branch(out, o, base, v, x.left, x.right, x.least, x.other)
+        }
+        _ => jumps::put_raise(out, o, base, v, h),
     }
 }
 
@@ -114,9 +107,8 @@ pub fn put_block(
     let mut at = start;
     let mut place = o;
     loop {
-        let x = operation_at(file, at);
-        place = put_operation(file, numbers, base, v, h, at, x, out, place);
-        match after_of(x) {
+        place = put_operation(file, numbers, base, v, h, at, out, place);
+        match after_of(operation_at(file, at)) {
             After::Onward(next) => {
                 at = next;
             }

@@ -9,7 +9,7 @@ use parsing::refusals;
 use parsing::refused_unless;
 use procedure_file::check::load;
 use procedure_file::table::functions_of;
-use target_layout::layout::FILE_LIMIT;
+use target_tags::tag::FILE_LIMIT;
 use translator_sizes::function_size;
 ghost use mathlib.Core.Path.{_≡_};
 ghost use lib.ListN.{length};

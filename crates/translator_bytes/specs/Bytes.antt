@@ -3,11 +3,10 @@ use Prim.Native.Nat.{ℕ, zero, suc, _+_}
 use mathlib.Core.Bool.{cond}
 use mathlib.Core.List.{List, [], _∷_, _++_, map}
 use lib.Dec.{eqb}
-use lib.IntN.{pos}
-use lib.ListN.{getD, take, drop}
+use lib.ListN.{getD}
 use Rattle.parsing.specs.Bytes.{pairBytes, valueBytes}
 use Rattle.semantics.specs.Translation.{slotOf, slotsFrom}
-use Rattle.procedure_layout.specs.Layout.{argumentsAt}
+use Rattle.procedure_operations.specs.Operation.{argumentsAt}
 use Rattle.procedure_operations.specs.declared.operation.Operation.{Operation}
 use Rattle.procedure_operations.specs.declared.operation.Operation.the-variants.{Constant, Copy, Difference, Call, Goto, Return, Branch, Raise, Refused}
 

@@ -1,17 +1,22 @@
 -- The forms with a jump, as they are written.
-use Prim.Native.Nat.{ℕ, zero, suc, _+_, _-_, _≤_, _<_}
+use Prim.Native.Nat.{ℕ, _+_, _≤_, _<_}
 use native.Mathlib.Omega.{arith}
-use mathlib.Core.Path.{_≡_, refl, sym, ap, _∙_, subst}
+use mathlib.Core.Path.{_≡_, sym, ap, _∙_, subst}
 use mathlib.Core.List.{List, [], _∷_, _++_, map}
 use borrow.Author.Tests.{eq-eqb, ne-eqb}
-use lib.ListN.{length, getD, take, drop}
-use Rattle.parsing.specs.Bytes.{pairBytes, valueBytes, Bytes}
-use Rattle.parsing.specs.BytesLaws.{value-bytes}
-use Rattle.parsing.specs.Fields.{valueAt}
-use Rattle.semantics.specs.Translation.{slotOf, slotsFrom}
-use Rattle.translator_bytes.specs.Writes.{Room, Wrote, Arguments}
+use lib.ListN.{length, getD, drop, drop-of-length-le}
+use Rattle.parsing.specs.Bytes.{pairBytes, valueBytes}
+use Rattle.parsing.specs.BytesLaws.{value-back}
+use Rattle.parsing.specs.Fields.{valueOf}
+use Rattle.semantics.specs.Translation.{slotOf}
+use Rattle.procedure_operations.specs.Operation.{operationAt, argumentsAt}
+use Rattle.procedure_operations.specs.Ranges.{NumbersInRange}
+use Rattle.procedure_fields.specs.declared.fields.ConstantBytes.{ConstantBytes}
+use Rattle.procedure_fields.specs.Number.{countOf}
+use Rattle.procedure_fields.specs.NumberLaws.{argument-in-range}
+use Rattle.translator_bytes.specs.Writes.{Room, Wrote, CallStands}
 use Rattle.translator_bytes.specs.WriteLaws.{room-front, room-back, wrote-both, Rest, rest-none, rest-as, rest-more, rest-done, arguments-more}
-use Rattle.translator_bytes.specs.Bytes.{jumpHead, labelJump, callJump, plainCall, guardedCall, branchBytes, raiseBytes, raiseSize, callBytes}
+use Rattle.translator_bytes.specs.Bytes.{labelJump, callJump, plainCall, guardedCall, branchBytes, raiseBytes, raiseSize, callBytes}
 
 -- A jump's length, where the code has computed it.
 pub pair-as : {o j n r : ℕ} {d d′ : List ℕ} → j ≡ n → Wrote o (pairBytes j) d r d′ → Wrote o (pairBytes n) d r d′
@@ -20,57 +25,52 @@ pair-as {o} {r = r} {d = d} {d′ = d′} e W = subst (λ (k : ℕ). Wrote o (pa
 pub pair-room : {o j n : ℕ} {d : List ℕ} → j ≡ n → Room o (pairBytes n) d → Room o (pairBytes j) d
 pair-room {o} {d = d} e R = subst (λ (k : ℕ). Room o (pairBytes k) d) (sym e) R
 
--- The loop over a call's arguments.
-pub record Passing (s : List ℕ) (from n o₀ : ℕ) (d₀ : List ℕ) (at left o : ℕ) (d : List ℕ) : Type 0 where
-  pub ready : Arguments s from n
-  pub place : at + left ≡ from + n
-  pub startBound : from ≤ at
-  pub rest : Rest o₀ (map slotOf (take n (drop from s))) d₀ o (map slotOf (take left (drop at s))) d
+-- The loop over a call's arguments, from the i-th on.
+pub record Passing (s : List ℕ) (at n o₀ : ℕ) (d₀ : List ℕ) (i o : ℕ) (d : List ℕ) : Type 0 where
+  pub ready : CallStands s at n
+  pub rest : Rest o₀ (map slotOf (argumentsAt s at n)) d₀ o (map slotOf (drop i (argumentsAt s at n))) d
 
-pub passing-none : {s : List ℕ} {from n o : ℕ} {d : List ℕ} → (from + n ≤ length s) × ((i : ℕ) → i < n → getD s (from + i) 0 < 32)
-    → Room o (map slotOf (take n (drop from s))) d → Passing s from n o d from n o d
-passing-none {s} {from} {n} {o} {d} A R = record { ready = record { inside = A .0; small = A .1 }; place = refl; startBound = omega arith; rest = rest-none R }
+pub passing-none : {s : List ℕ} {at n o : ℕ} {d : List ℕ} → CallStands s at n → Room o (map slotOf (argumentsAt s at n)) d → Passing s at n o d 0 o d
+passing-none C R = record { ready = C; rest = rest-none R }
 
-module _ {s : List ℕ} {from n o₀ : ℕ} {d₀ : List ℕ} {at left o : ℕ} {d : List ℕ} (K : Passing s from n o₀ d₀ at left o d) where
-  pub passing-small : 0 < left → (at < length s) × (getD s at 0 < 32)
-  passing-small h =
-      let p : at + left ≡ from + n = K .place in
-      let q : from ≤ at = K .startBound in
-      let i : from + n ≤ length s = K .ready .inside in
-      let e : from + (at - from) ≡ at = omega arith in
-      (omega arith, subst (λ (k : ℕ). getD s k 0 < 32) e (K .ready .small (at - from) (omega arith)))
+module _ {s : List ℕ} {at n o₀ : ℕ} {d₀ : List ℕ} {i o : ℕ} {d : List ℕ} (K : Passing s at n o₀ d₀ i o d) where
+  pub passing-asks : i < n → (i < countOf (operationAt s at)) × NumbersInRange s at (operationAt s at)
+  passing-asks h = (subst (λ (k : ℕ). i < k) (K .ready .count) h, K .ready .numbers)
 
-  pub passing-room : 0 < left → Room o ((getD s at 0 + 2) ∷ []) d
-  passing-room h =
-      room-front ((getD s at 0 + 2) ∷ []) (map slotOf (take (left - 1) (drop (at + 1) s)))
-      (rest-as (K .rest) _ (arguments-more s at left (left - 1) (omega arith) (passing-small h .0)))
+  -- The argument's number y, and its slot t.
+  module _ (h : i < n) {y : ℕ} (ey : y ≡ getD (argumentsAt s at (countOf (operationAt s at))) i 0) where
+    pub passing-small : y < 32
+    passing-small = subst (λ (k : ℕ). k < 32) (sym ey) (argument-in-range s at (operationAt s at) (K .ready .numbers) i (passing-asks h .0))
 
-  pub passing-more : 0 < left → {r : ℕ} {d′ : List ℕ} → Wrote o ((getD s at 0 + 2) ∷ []) d r d′ → Passing s from n o₀ d₀ (at + 1) (left - 1) r d′
-  passing-more h W =
-      let p : at + left ≡ from + n = K .place in
-      let q : from ≤ at = K .startBound in
-      record {
-        ready = K .ready;
-        place = omega arith;
-        startBound = omega arith;
-        rest = rest-more (K .rest) ((getD s at 0 + 2) ∷ []) (map slotOf (take (left - 1) (drop (at + 1) s))) (arguments-more s at left (left - 1) (omega arith) (passing-small h .0)) W;
-      }
+    module _ {t : ℕ} (et : t ≡ y + 2) where
+      first : map slotOf (drop i (argumentsAt s at n)) ≡ (t ∷ []) ++ map slotOf (drop (i + 1) (argumentsAt s at n))
+      first =
+          let l : length (argumentsAt s at n) ≡ n = K .ready .long in
+          let e : y ≡ getD (argumentsAt s at n) i 0 = ey ∙ ap (λ (k : ℕ). getD (argumentsAt s at k) i 0) (sym (K .ready .count)) in
+          arguments-more (argumentsAt s at n) i t (omega arith) (et ∙ ap (λ (k : ℕ). k + 2) e)
 
-  pub passing-done : left ≡ 0 → Wrote o₀ (map slotOf (take n (drop from s))) d₀ o d
-  passing-done e = rest-done (K .rest) (ap (λ (k : ℕ). map slotOf (take k (drop at s))) e)
+      pub passing-room : Room o (t ∷ []) d
+      passing-room = room-front (t ∷ []) (map slotOf (drop (i + 1) (argumentsAt s at n))) (rest-as (K .rest) _ first)
+
+      pub passing-more : {r : ℕ} {d′ : List ℕ} → Wrote o (t ∷ []) d r d′ → Passing s at n o₀ d₀ (i + 1) r d′
+      passing-more W = record { ready = K .ready; rest = rest-more (K .rest) (t ∷ []) (map slotOf (drop (i + 1) (argumentsAt s at n))) first W }
+
+  pub passing-done : n ≤ i → Wrote o₀ (map slotOf (argumentsAt s at n)) d₀ o d
+  passing-done h = let l : length (argumentsAt s at n) ≡ n = K .ready .long in rest-done (K .rest) (ap (map slotOf) (drop-of-length-le (argumentsAt s at n) {i = i} (omega arith)))
 
 -- Forms of several parts, as they are written one behind the other.
-module _ (v x g n : ℕ) (ys : List ℕ) {o j : ℕ} {d : List ℕ} (e : j ≡ 6 + n) (R : Room o (plainCall v x g n ys) d) where
-  whole : Room o ((8 ∷ (v + 2) ∷ (x + 2) ∷ []) ++ (pairBytes (6 + n) ++ callJump g (v + 2) 1 n ys)) d
+-- The slot of a variable x is t.
+module _ (v x g n : ℕ) (ys : List ℕ) {t o j : ℕ} {d : List ℕ} (et : t ≡ x + 2) (e : j ≡ 6 + n) (R : Room o (plainCall v x g n ys) d) where
+  whole : Room o ((8 ∷ (v + 2) ∷ t ∷ []) ++ (pairBytes (6 + n) ++ callJump g (v + 2) 1 n ys)) d
   unfolding plainCall
-  whole = R
+  whole = rw et R
 
-  pub plain-room : Room o (8 ∷ (v + 2) ∷ (x + 2) ∷ []) d
-  plain-room = room-front (8 ∷ (v + 2) ∷ (x + 2) ∷ []) (pairBytes (6 + n) ++ callJump g (v + 2) 1 n ys) whole
+  pub plain-room : Room o (8 ∷ (v + 2) ∷ t ∷ []) d
+  plain-room = room-front (8 ∷ (v + 2) ∷ t ∷ []) (pairBytes (6 + n) ++ callJump g (v + 2) 1 n ys) whole
 
-  module _ {a : ℕ} {d₁ : List ℕ} (W : Wrote o (8 ∷ (v + 2) ∷ (x + 2) ∷ []) d a d₁) where
+  module _ {a : ℕ} {d₁ : List ℕ} (W : Wrote o (8 ∷ (v + 2) ∷ t ∷ []) d a d₁) where
     behind : Room a (pairBytes (6 + n) ++ callJump g (v + 2) 1 n ys) d₁
-    behind = room-back (8 ∷ (v + 2) ∷ (x + 2) ∷ []) (pairBytes (6 + n) ++ callJump g (v + 2) 1 n ys) whole W
+    behind = room-back (8 ∷ (v + 2) ∷ t ∷ []) (pairBytes (6 + n) ++ callJump g (v + 2) 1 n ys) whole W
 
     pub plain-pair-room : Room a (pairBytes j) d₁
     plain-pair-room = pair-room e (room-front (pairBytes (6 + n)) (callJump g (v + 2) 1 n ys) behind)
@@ -81,21 +81,22 @@ module _ (v x g n : ℕ) (ys : List ℕ) {o j : ℕ} {d : List ℕ} (e : j ≡ 6
 
       pub plain-wrote : {r : ℕ} {d₃ : List ℕ} → Wrote b (callJump g (v + 2) 1 n ys) d₂ r d₃ → Wrote o (plainCall v x g n ys) d r d₃
       unfolding plainCall
-      plain-wrote Y =
-          wrote-both (8 ∷ (v + 2) ∷ (x + 2) ∷ []) (pairBytes (6 + n) ++ callJump g (v + 2) 1 n ys) whole W
-          (wrote-both (pairBytes (6 + n)) (callJump g (v + 2) 1 n ys) behind (pair-as e X) Y)
+      plain-wrote {r} {d₃} Y =
+          rw (← et)
+          (wrote-both (8 ∷ (v + 2) ∷ t ∷ []) (pairBytes (6 + n) ++ callJump g (v + 2) 1 n ys) whole W
+          (wrote-both (pairBytes (6 + n)) (callJump g (v + 2) 1 n ys) behind (pair-as e X) Y))
 
-module _ (base v h x g n : ℕ) (ys : List ℕ) {o j k : ℕ} {d : List ℕ} (e : j ≡ 6 + n) (ek : k ≡ 6 + v) (R : Room o (guardedCall base v h x g n ys) d) where
-  all : Room o ((9 ∷ (v + 2) ∷ (x + 2) ∷ (v + 3) ∷ []) ++ (pairBytes (6 + n) ++ (callJump g (v + 2) (v + 3) n ys ++ (pairBytes (6 + v) ++ labelJump base v h)))) d
+module _ (base v h x g n : ℕ) (ys : List ℕ) {t o j k : ℕ} {d : List ℕ} (et : t ≡ x + 2) (e : j ≡ 6 + n) (ek : k ≡ 6 + v) (R : Room o (guardedCall base v h x g n ys) d) where
+  all : Room o ((9 ∷ (v + 2) ∷ t ∷ (v + 3) ∷ []) ++ (pairBytes (6 + n) ++ (callJump g (v + 2) (v + 3) n ys ++ (pairBytes (6 + v) ++ labelJump base v h)))) d
   unfolding guardedCall
-  all = R
+  all = rw et R
 
-  pub guarded-room : Room o (9 ∷ (v + 2) ∷ (x + 2) ∷ (v + 3) ∷ []) d
-  guarded-room = room-front (9 ∷ (v + 2) ∷ (x + 2) ∷ (v + 3) ∷ []) (pairBytes (6 + n) ++ (callJump g (v + 2) (v + 3) n ys ++ (pairBytes (6 + v) ++ labelJump base v h))) all
+  pub guarded-room : Room o (9 ∷ (v + 2) ∷ t ∷ (v + 3) ∷ []) d
+  guarded-room = room-front (9 ∷ (v + 2) ∷ t ∷ (v + 3) ∷ []) (pairBytes (6 + n) ++ (callJump g (v + 2) (v + 3) n ys ++ (pairBytes (6 + v) ++ labelJump base v h))) all
 
-  module _ {a : ℕ} {d₁ : List ℕ} (W : Wrote o (9 ∷ (v + 2) ∷ (x + 2) ∷ (v + 3) ∷ []) d a d₁) where
+  module _ {a : ℕ} {d₁ : List ℕ} (W : Wrote o (9 ∷ (v + 2) ∷ t ∷ (v + 3) ∷ []) d a d₁) where
     second : Room a (pairBytes (6 + n) ++ (callJump g (v + 2) (v + 3) n ys ++ (pairBytes (6 + v) ++ labelJump base v h))) d₁
-    second = room-back (9 ∷ (v + 2) ∷ (x + 2) ∷ (v + 3) ∷ []) (pairBytes (6 + n) ++ (callJump g (v + 2) (v + 3) n ys ++ (pairBytes (6 + v) ++ labelJump base v h))) all W
+    second = room-back (9 ∷ (v + 2) ∷ t ∷ (v + 3) ∷ []) (pairBytes (6 + n) ++ (callJump g (v + 2) (v + 3) n ys ++ (pairBytes (6 + v) ++ labelJump base v h))) all W
 
     pub guarded-pair-room : Room a (pairBytes j) d₁
     guarded-pair-room = pair-room e (room-front (pairBytes (6 + n)) (callJump g (v + 2) (v + 3) n ys ++ (pairBytes (6 + v) ++ labelJump base v h)) second)
@@ -121,22 +122,23 @@ module _ (base v h x g n : ℕ) (ys : List ℕ) {o j k : ℕ} {d : List ℕ} (e 
           pub guarded-wrote : {r : ℕ} {d₅ : List ℕ} → Wrote f (labelJump base v h) d₄ r d₅ → Wrote o (guardedCall base v h x g n ys) d r d₅
           unfolding guardedCall
           guarded-wrote Q =
-              wrote-both (9 ∷ (v + 2) ∷ (x + 2) ∷ (v + 3) ∷ []) (pairBytes (6 + n) ++ (callJump g (v + 2) (v + 3) n ys ++ (pairBytes (6 + v) ++ labelJump base v h))) all W
+              rw (← et)
+              (wrote-both (9 ∷ (v + 2) ∷ t ∷ (v + 3) ∷ []) (pairBytes (6 + n) ++ (callJump g (v + 2) (v + 3) n ys ++ (pairBytes (6 + v) ++ labelJump base v h))) all W
               (wrote-both (pairBytes (6 + n)) (callJump g (v + 2) (v + 3) n ys ++ (pairBytes (6 + v) ++ labelJump base v h)) second (pair-as e X)
               (wrote-both (callJump g (v + 2) (v + 3) n ys) (pairBytes (6 + v) ++ labelJump base v h) third Y
-              (wrote-both (pairBytes (6 + v)) (labelJump base v h) fourth (pair-as ek Z) Q)))
+              (wrote-both (pairBytes (6 + v)) (labelJump base v h) fourth (pair-as ek Z) Q))))
 
-module _ (base v y z l m : ℕ) {o j : ℕ} {d : List ℕ} (e : j ≡ 6 + v) (R : Room o (branchBytes base v y z l m) d) where
-  entire : Room o ((7 ∷ (y + 2) ∷ (z + 2) ∷ []) ++ (pairBytes (6 + v) ++ (labelJump base v l ++ labelJump base v m))) d
+module _ (base v y z l m : ℕ) {t u o j : ℕ} {d : List ℕ} (et : t ≡ y + 2) (eu : u ≡ z + 2) (e : j ≡ 6 + v) (R : Room o (branchBytes base v y z l m) d) where
+  entire : Room o ((7 ∷ t ∷ u ∷ []) ++ (pairBytes (6 + v) ++ (labelJump base v l ++ labelJump base v m))) d
   unfolding branchBytes
-  entire = R
+  entire = rw (et, eu) R
 
-  pub branch-room : Room o (7 ∷ (y + 2) ∷ (z + 2) ∷ []) d
-  branch-room = room-front (7 ∷ (y + 2) ∷ (z + 2) ∷ []) (pairBytes (6 + v) ++ (labelJump base v l ++ labelJump base v m)) entire
+  pub branch-room : Room o (7 ∷ t ∷ u ∷ []) d
+  branch-room = room-front (7 ∷ t ∷ u ∷ []) (pairBytes (6 + v) ++ (labelJump base v l ++ labelJump base v m)) entire
 
-  module _ {a : ℕ} {d₁ : List ℕ} (W : Wrote o (7 ∷ (y + 2) ∷ (z + 2) ∷ []) d a d₁) where
+  module _ {a : ℕ} {d₁ : List ℕ} (W : Wrote o (7 ∷ t ∷ u ∷ []) d a d₁) where
     lengthRoom : Room a (pairBytes (6 + v) ++ (labelJump base v l ++ labelJump base v m)) d₁
-    lengthRoom = room-back (7 ∷ (y + 2) ∷ (z + 2) ∷ []) (pairBytes (6 + v) ++ (labelJump base v l ++ labelJump base v m)) entire W
+    lengthRoom = room-back (7 ∷ t ∷ u ∷ []) (pairBytes (6 + v) ++ (labelJump base v l ++ labelJump base v m)) entire W
 
     pub branch-pair-room : Room a (pairBytes j) d₁
     branch-pair-room = pair-room e (room-front (pairBytes (6 + v)) (labelJump base v l ++ labelJump base v m) lengthRoom)
@@ -155,9 +157,10 @@ module _ (base v y z l m : ℕ) {o j : ℕ} {d : List ℕ} (e : j ≡ 6 + v) (R 
         pub branch-wrote : {r : ℕ} {d₄ : List ℕ} → Wrote c (labelJump base v m) d₃ r d₄ → Wrote o (branchBytes base v y z l m) d r d₄
         unfolding branchBytes
         branch-wrote Q =
-            wrote-both (7 ∷ (y + 2) ∷ (z + 2) ∷ []) (pairBytes (6 + v) ++ (labelJump base v l ++ labelJump base v m)) entire W
+            rw (← et, ← eu)
+            (wrote-both (7 ∷ t ∷ u ∷ []) (pairBytes (6 + v) ++ (labelJump base v l ++ labelJump base v m)) entire W
             (wrote-both (pairBytes (6 + v)) (labelJump base v l ++ labelJump base v m) lengthRoom (pair-as e X)
-            (wrote-both (labelJump base v l) (labelJump base v m) tailRoom Y Q))
+            (wrote-both (labelJump base v l) (labelJump base v m) tailRoom Y Q)))
 
 -- By the handler in force.
 module _ (base v h x g n : ℕ) (ys : List ℕ) where
@@ -192,3 +195,26 @@ room-as {o} {d = d} e R = subst (λ (y : List ℕ). Room o y d) e R
 
 pub wrote-as : {o r : ℕ} {w w′ d d′ : List ℕ} → w ≡ w′ → Wrote o w′ d r d′ → Wrote o w d r d′
 wrote-as {o} {r} {d = d} {d′ = d′} e W = subst (λ (y : List ℕ). Wrote o y d r d′) (sym e) W
+
+-- A constant, its target's slot and the bytes of its value.
+abbrev pub ValueFits : ConstantBytes → Type 0
+ValueFits x = (x .b0 < 256) × (x .b1 < 256) × (x .b2 < 256) × (x .b3 < 256)
+
+module _ (x : ConstantBytes) {t o : ℕ} {d : List ℕ} (et : t ≡ x .target .0 + 2)
+    (R : Room o ((1 ∷ (x .target .0 + 2) ∷ []) ++ valueBytes (valueOf (x .b0) (x .b1) (x .b2) (x .b3))) d) where
+  complete : Room o ((1 ∷ t ∷ []) ++ valueBytes (valueOf (x .b0) (x .b1) (x .b2) (x .b3))) d
+  complete = rw et R
+
+  pub constant-two-room : Room o (1 ∷ t ∷ []) d
+  constant-two-room = room-front (1 ∷ t ∷ []) (valueBytes (valueOf (x .b0) (x .b1) (x .b2) (x .b3))) complete
+
+  module _ (fits : ValueFits x) {a : ℕ} {d₁ : List ℕ} (W : Wrote o (1 ∷ t ∷ []) d a d₁) where
+    four : valueBytes (valueOf (x .b0) (x .b1) (x .b2) (x .b3)) ≡ x .b0 ∷ x .b1 ∷ x .b2 ∷ x .b3 ∷ []
+    four = value-back (x .b0) (x .b1) (x .b2) (x .b3) (fits .0) (fits .1) (fits .2) (fits .3)
+
+    pub constant-four-room : Room a (x .b0 ∷ x .b1 ∷ x .b2 ∷ x .b3 ∷ []) d₁
+    constant-four-room = room-as four (room-back (1 ∷ t ∷ []) (valueBytes (valueOf (x .b0) (x .b1) (x .b2) (x .b3))) complete W)
+
+    pub constant-wrote : {r : ℕ} {d₂ : List ℕ} → Wrote a (x .b0 ∷ x .b1 ∷ x .b2 ∷ x .b3 ∷ []) d₁ r d₂
+        → Wrote o ((1 ∷ (x .target .0 + 2) ∷ []) ++ valueBytes (valueOf (x .b0) (x .b1) (x .b2) (x .b3))) d r d₂
+    constant-wrote Y = rw (← et) (wrote-both (1 ∷ t ∷ []) (valueBytes (valueOf (x .b0) (x .b1) (x .b2) (x .b3))) complete W (wrote-as four Y))

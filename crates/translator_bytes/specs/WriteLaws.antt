@@ -1,10 +1,9 @@
 -- Writes, one behind the other.
-use Prim.Native.Nat.{ℕ, zero, suc, _+_, _-_, _≤_, _<_}
+use Prim.Native.Nat.{ℕ, suc, _+_, _≤_, _<_}
 use native.Mathlib.Omega.{arith}
-use native.Mathlib.Nat.{add-zero}
 use mathlib.Core.Path.{_≡_, refl, sym, ap, _∙_, subst}
 use mathlib.Core.List.{List, [], _∷_, _++_, map}
-use lib.ListN.{length, getD, take, drop, set, length-append}
+use lib.ListN.{length, getD, drop, set, length-append}
 use lib.Seq.{drop-cons}
 use Rattle.memory.specs.Lay.{lay}
 use Rattle.memory.specs.LayLaws.{length-lay, lay-lay, lay-nil, lay-one, lay-two, lay-three, lay-four}
@@ -119,13 +118,9 @@ zeros-more x n m e =
     let q : suc x ≡ x + 1 = omega arith in
     ap (zeros x) p ∙ ap (λ (y : ℕ). ((1 ∷ x ∷ []) ++ (0 ∷ 0 ∷ 0 ∷ 0 ∷ [])) ++ zeros y m) q
 
-pub arguments-more : (s : List ℕ) (i n m : ℕ) → n ≡ m + 1 → i < length s
-    → map slotOf (take n (drop i s)) ≡ ((getD s i 0 + 2) ∷ []) ++ map slotOf (take m (drop (i + 1) s))
-arguments-more s i n m e h =
-    let p : n ≡ suc m = omega arith in
+pub arguments-more : (ys : List ℕ) (i t : ℕ) → i < length ys → t ≡ getD ys i 0 + 2 → map slotOf (drop i ys) ≡ (t ∷ []) ++ map slotOf (drop (i + 1) ys)
+arguments-more ys i t h e =
     let q : suc i ≡ i + 1 = omega arith in
-    let t : suc (suc (getD s i 0)) ≡ getD s i 0 + 2 = omega arith in
-    ap (λ (k : ℕ). map slotOf (take k (drop i s))) p
-    ∙ (ap (λ (l : List ℕ). map slotOf (take (suc m) l)) (drop-cons s i 0 h)
-    ∙ (ap (λ (k : ℕ). suc (suc (getD s i 0)) ∷ map slotOf (take m (drop k s))) q
-    ∙ ap (λ (k : ℕ). k ∷ map slotOf (take m (drop (i + 1) s))) t))
+    let u : suc (suc (getD ys i 0)) ≡ t = omega arith in
+    ap (map slotOf) (drop-cons ys i 0 h)
+    ∙ (ap (λ (k : ℕ). suc (suc (getD ys i 0)) ∷ map slotOf (drop k ys)) q ∙ ap (λ (k : ℕ). k ∷ map slotOf (drop (i + 1) ys)) u)

@@ -1,21 +1,26 @@
 -- What the functions that write are asked and what they promise.
-use Prim.Native.Nat.{ℕ, _+_, _≤_, _<_}
+use Prim.Native.Nat.{ℕ, _+_, _≤_}
 use mathlib.Core.Path.{_≡_}
 use mathlib.Core.List.{List}
-use lib.ListN.{length, getD}
+use lib.ListN.{length}
 use Rattle.memory.specs.Lay.{lay}
+use Rattle.target_tags.specs.Tag.{fileLimit}
+use Rattle.procedure_operations.specs.Operation.{operationAt, argumentsAt}
+use Rattle.procedure_operations.specs.Ranges.{NumbersInRange}
+use Rattle.procedure_fields.specs.Number.{countOf}
 
--- There is room for w at an offset of the output d, within 65,535 bytes.
+-- There is room for w at an offset of the output d, within the limit of a translated file.
 pub record Room (o : ℕ) (w d : List ℕ) : Type 0 where
   pub fits : o + length w ≤ length d
-  pub small : o + length w ≤ 65535
+  pub small : o + length w ≤ fileLimit
 
 -- w was written at an offset o of d, which is now d′; r is the offset past it.
 pub record Wrote (o : ℕ) (w d : List ℕ) (r : ℕ) (d′ : List ℕ) : Type 0 where
   pub next : r ≡ o + length w
   pub laid : d′ ≡ lay o w d
 
--- n variables' numbers stand in the file from an offset on.
-pub record Arguments (s : List ℕ) (from n : ℕ) : Type 0 where
-  pub inside : from + n ≤ length s
-  pub small : (i : ℕ) → i < n → getD s (from + i) 0 < 32
+-- A call with n arguments stands at an offset of the file.
+pub record CallStands (s : List ℕ) (at n : ℕ) : Type 0 where
+  pub count : n ≡ countOf (operationAt s at)
+  pub long : length (argumentsAt s at n) ≡ n
+  pub numbers : NumbersInRange s at (operationAt s at)

@@ -1,11 +1,14 @@
 // Bytes written into the output, one behind the other: each function gives the offset past what it wrote.
+use procedure_fields::fields::argument_at;
+use procedure_operations::numbers::VariableNumber;
 ghost use mathlib.Core.Path.{_≡_};
 ghost use mathlib.Core.List.{[], _∷_, _++_, map};
-ghost use Prim.Native.Nat.{ℕ, _+_, _<_, _≤_};
-ghost use lib.ListN.{length, getD, take, drop};
+ghost use Prim.Native.Nat.{_+_, _<_, _≤_};
 ghost use Rattle.parsing.specs.Bytes.{pairBytes};
 ghost use Rattle.semantics.specs.Translation.{slotOf, slotsFrom};
-ghost use Rattle.translator_bytes.specs.Writes.{Room, Wrote};
+ghost use Rattle.procedure_operations.specs.Numbers.{maxVariables};
+ghost use Rattle.procedure_operations.specs.Operation.{argumentsAt};
+ghost use Rattle.translator_bytes.specs.Writes.{Room, Wrote, CallStands};
 ghost use Rattle.translator_bytes.specs.Bytes.{zeros};
 
 pub fn put_one(out: &mut [u8], o: usize, x: u8) -> usize
@@ -84,20 +87,28 @@ pub fn put_slots(out: &mut [u8], o: usize, first: u8, n: u8) -> usize
     place
 }
 
-// The slots of n variables whose numbers stand in the file from an offset on.
-pub fn put_arguments(file: &[u8], from: usize, out: &mut [u8], o: usize, n: u8) -> usize
-    requires { ⌜ (from + n ≤ length (now file)) × ((i : ℕ) → i < n → getD (now file) (from + i) 0 < 32) ⌝ }
-    requires { ⌜ Room o (map slotOf (take n (drop from (now file)))) (now out) ⌝ }
-    ensures { λ r. ⌜ Wrote o (map slotOf (take n (drop from (now (file .entry))))) (now (out .entry)) r (now (out .exit)) ⌝ }
+// "variable v in slot v+2"
+pub fn slot_of(x: VariableNumber) -> u8
+    requires { ⌜ x .0 < maxVariables ⌝ }
+    ensures { λ r. ⌜ r ≡ x .0 + 2 ⌝ }
 {
+    let slot = x.index() + 2;
+    slot as u8
+}
+
+// The slots of the n arguments of the call at an offset.
+pub fn put_arguments(file: &[u8], at: usize, out: &mut [u8], o: usize, n: u8) -> usize
+    requires { ⌜ CallStands (now file) at n ⌝ }
+    requires { ⌜ Room o (map slotOf (argumentsAt (now file) at n)) (now out) ⌝ }
+    ensures { λ r. ⌜ Wrote o (map slotOf (argumentsAt (now (file .entry)) at n)) (now (out .entry)) r (now (out .exit)) ⌝ }
+{
+    let count = n as usize;
     let mut place = o;
-    let mut at = from;
-    let mut left = n;
-    while 0 < left {
-        left -= 1;
-        let slot = file[at] + 2;
+    let mut i = 0;
+    while i < count {
+        let slot = slot_of(argument_at(file, at, i));
         place = put_one(out, place, slot);
-        at += 1;
+        i += 1;
     }
     place
 }

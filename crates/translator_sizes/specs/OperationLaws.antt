@@ -1,14 +1,12 @@
--- What stands at an offset of an accepted file: its ranges, and the bytes that it becomes before the rest of its block.
+-- What stands at an offset of an accepted file, and the bytes that it becomes before the rest of its block.
 use Prim.Native.Nat.{ℕ, zero, suc, _+_, _≤_, _<_}
 use native.Mathlib.Omega.{arith}
 use mathlib.Core.Path.{_≡_, refl, sym, ap, _∙_, subst}
 use mathlib.Core.List.{List, [], _∷_, _++_, map, append-assoc, append-nil}
-use lib.ListN.{length, getD}
-use Rattle.parsing.specs.Fields.{valueAt}
+use lib.ListN.{length}
 use Rattle.parsing.specs.Bytes.{pairBytes, valueBytes}
 use Rattle.semantics.specs.Program.{Block, call, Program, variables, functionOf}
 use Rattle.semantics.specs.WellFormed.{WellFormedBlock}
-use Rattle.semantics.specs.ListLaws.{all-at}
 use Rattle.semantics.specs.Code.{jump, ifAtMost}
 use Rattle.semantics.specs.Translation.{slotOf, slotsFrom, toLabel, raiseCode, code, number}
 use Rattle.procedure_operations.specs.declared.operation.Operation.{Operation}
@@ -19,25 +17,23 @@ use Rattle.procedure_operations.specs.Operation.{operationAt}
 use Rattle.procedure_layout.specs.Layout.{argumentsAt}
 use Rattle.procedure_layout.specs.Rest.{restFrom, restAt}
 use Rattle.procedure_layout.specs.After.{afterOf}
-use Rattle.procedure_operations.specs.ViewLaws.{View, isConstant, isCopy, isDifference, isCall, isGoto, isReturn, isBranch, isRaise, isRefused, view}
 use Rattle.procedure_file.specs.Check.{programOf}
-use Rattle.target_file.specs.Writing.{size, exprBytes}
+use Rattle.target_file.specs.Writing.{exprBytes}
 use Rattle.translator_bytes.specs.Bytes.{jumpHead, labelJump, callJump, plainCall, guardedCall, branchBytes, raiseBytes, callBytes, operationBytes, operationSize}
 use Rattle.translator_sizes.specs.Parts.{bodyAt, bytesAt}
 use Rattle.translator_sizes.specs.Standing.{OperationStands, CountInTable}
-use Rattle.translator_bytes.specs.Writes.{Arguments}
 use Rattle.translator_sizes.specs.SizeLaws.{guarded-test, length-slots, label-size, called-size, branch-size, raise-size}
 use lib.ListN.{length-map}
 
--- The ranges of the names of an operation.
+-- What a call's callee and arguments are; no operation is a refusal.
 abbrev pub Fine : List ℕ → ℕ → Operation → Type 0
-Fine s at (Constant x i next) = (x < 32) × (at + 6 ≤ length s) × (i ≡ valueAt s (at + 2))
-Fine s at (Copy x y next) = (x < 32) × (y < 32)
-Fine s at (Difference x y z next) = (x < 32) × (y < 32) × (z < 32)
-Fine s at (Call x g n next) = (x < 32) × (g < length (programOf s)) × (n ≤ 32) × Arguments s (at + 4) n × (length (argumentsAt s at n) ≡ n)
+Fine s at (Constant x i next) = Unit {0}
+Fine s at (Copy x y next) = Unit {0}
+Fine s at (Difference x y z next) = Unit {0}
+Fine s at (Call x g n next) = (g < length (programOf s)) × (n ≤ 32) × (length (argumentsAt s at n) ≡ n)
 Fine s at (Goto l next) = Unit {0}
-Fine s at (Return x next) = x < 32
-Fine s at (Branch y z l m next) = (y < 32) × (z < 32)
+Fine s at (Return x next) = Unit {0}
+Fine s at (Branch y z l m next) = Unit {0}
 Fine s at (Raise next) = Unit {0}
 Fine s at (Refused r) = ⊥
 
@@ -54,7 +50,7 @@ module _ {s : List ℕ} {v at : ℕ} (H : OperationStands s v at) where
   within = H .invariant .inside (H .function) at (H .stands)
 
   pub fine : Fine s at (operationAt s at)
-  fine = go (view s at) refl (subst (λ (b : Block). WellFormedBlock P w n b) (H .invariant .rest at) (H .stands .formed))
+  fine = go (operationAt s at) refl (subst (WellFormedBlock P w n) (H .invariant .rest at) (H .stands .formed))
     where
       P : Program
       P = programOf s
@@ -65,31 +61,26 @@ module _ {s : List ℕ} {v at : ℕ} (H : OperationStands s v at) where
       n : ℕ
       n = length (functionOf P (H .function) .blocks)
 
-      in32 : (x : ℕ) → x < w → x < 32
-      in32 x h = let a : v ≤ 32 = variables-bound in let e : v ≡ w = H .vars in omega arith
-
-      go : {o : Operation} → View s at o → operationAt s at ≡ o → WellFormedBlock P w n (restFrom s at o (restAt s)) → Fine s at o
-      go (isConstant e h) q f = (in32 _ (f .0), h, refl)
-      go (isCopy e h) q f = (in32 _ (f .0), in32 _ (f .1))
-      go (isDifference e h) q f = (in32 _ (f .0), in32 _ (f .1), in32 _ (f .2))
-      go (isCall e h) q f =
-          let k = getD s (at + 3) 0 in
-          let g = getD s (at + 2) 0 in
-          let c : length (argumentsAt s at k) ≡ k = H .invariant .called at _ g k _ q in
+      go : (o : Operation) → operationAt s at ≡ o → WellFormedBlock P w n (restFrom s at o (restAt s)) → Fine s at o
+      go (Constant x i next) q f = tt
+      go (Copy x y next) q f = tt
+      go (Difference x y z next) q f = tt
+      go (Call x g k next) q f =
+          let c : length (argumentsAt s at k) ≡ k = H .invariant .called at x g k next q in
           let p : functionOf P g .params ≤ 8 = H .invariant .counts g (f .1) .params in
           let m : length (argumentsAt s at k) ≡ functionOf P g .params = f .2 in
-          (in32 _ (f .0), f .1, omega arith, record { inside = h; small = λ i l. in32 _ (all-at (λ y. y < w) (argumentsAt s at k) i _ (f .3) (H .invariant .argument at _ g k _ i q l)) }, c)
-      go (isGoto e h) q f = tt
-      go (isReturn e h) q f = in32 _ f
-      go (isBranch e h) q f = (in32 _ (f .0), in32 _ (f .1))
-      go (isRaise e h) q f = tt
-      go (isRefused r) q f = H .invariant .operation (H .function) at r (H .stands) q
+          (f .1, omega arith, c)
+      go (Goto l next) q f = tt
+      go (Return x next) q f = tt
+      go (Branch y z l m next) q f = tt
+      go (Raise next) q f = tt
+      go (Refused r) q f = H .invariant .operation (H .function) at r (H .stands) q
 
 pub of-bound : (s : List ℕ) (at : ℕ) (o : Operation) → Fine s at o → CountInTable o
 of-bound s at (Constant x i next) f = tt
 of-bound s at (Copy x y next) f = tt
 of-bound s at (Difference x y z next) f = tt
-of-bound s at (Call x g n next) f = f .2
+of-bound s at (Call x g n next) f = f .1
 of-bound s at (Goto l next) f = tt
 of-bound s at (Return x next) f = tt
 of-bound s at (Branch y z l m next) f = tt
@@ -102,7 +93,7 @@ pub operation-size : (ns : ℕ → ℕ) (base v h : ℕ) (s : List ℕ) (at : �
 operation-size ns base v h s at (Constant x i next) f = refl
 operation-size ns base v h s at (Copy x y next) f = refl
 operation-size ns base v h s at (Difference x y z next) f = refl
-operation-size ns base v h s at (Call x g n next) f = called-size base v h x (ns g) n (argumentsAt s at n) (f .4)
+operation-size ns base v h s at (Call x g n next) f = called-size base v h x (ns g) n (argumentsAt s at n) (f .2)
 operation-size ns base v h s at (Goto l next) f = label-size base v l
 operation-size ns base v h s at (Return x next) f = refl
 operation-size ns base v h s at (Branch y z l m next) f = branch-size base v y z l m
@@ -169,8 +160,8 @@ module _ (ns : ℕ → ℕ) (base v : ℕ) where
   split h s at (Constant x i next) f = ap (λ (k : ℕ). 1 ∷ k ∷ (valueBytes i ++ exprBytes (code ns base v h (restAt s next)))) (sym (two x))
   split h s at (Copy x y next) f = rw (two x, two y)
   split h s at (Difference x y z next) f = rw (two x, two y, two z)
-  split zero s at (Call x g n next) f = plain-is x g n (argumentsAt s at n) (restAt s next) (f .4)
-  split (suc l) s at (Call x g n next) f = rw (guarded-test l) (guarded-is l x g n (argumentsAt s at n) (restAt s next) (f .4))
+  split zero s at (Call x g n next) f = plain-is x g n (argumentsAt s at n) (restAt s next) (f .2)
+  split (suc l) s at (Call x g n next) f = rw (guarded-test l) (guarded-is l x g n (argumentsAt s at n) (restAt s next) (f .2))
   split h s at (Goto l next) f = label-is base v l ∙ sym (append-nil (labelJump base v l))
   split h s at (Return x next) f = rw (two x)
   split h s at (Branch y z l m next) f = branch-is base v y z l m ∙ sym (append-nil (branchBytes base v y z l m))

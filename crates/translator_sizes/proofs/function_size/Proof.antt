@@ -3,7 +3,6 @@ use Rattle.procedure_file.specs.TableLaws.{blocks-bound}
 use Rattle.translator_sizes.specs.FunctionLaws.{Blocks, blocks-start, blocks-next, blocks-end}
 use Prim.Native.Nat.{_+_, _-_, _≤_}
 use native.Mathlib.Omega.{arith}
-use borrow.Author.Needs.{needs}
 use Rattle.translator_sizes.proofs.function_size.Statement.{statement}
 use Rattle.translator_sizes.proofs.function_size.Tie as tie
 

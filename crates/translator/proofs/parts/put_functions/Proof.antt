@@ -4,7 +4,6 @@ use Rattle.translator_bytes.specs.WriteLaws.{Rest, rest-from, rest-as, rest-mor
 use Rattle.translator_sizes.specs.Parts.{functionBytes, functionsBytes}
 use Prim.Native.Nat.{_+_, _-_}
 use native.Mathlib.Omega.{arith}
-use borrow.Author.Needs.{needs}
 use Rattle.translator.proofs.parts.put_functions.Statement.{statement}
 use Rattle.translator.proofs.parts.put_functions.Tie as tie
 

@@ -12,28 +12,31 @@ put-three-before-put-pair c = c .before .before .before .before
 abbrev put-pair-before-put-label-jump : tie.After-put-label-jump → tie.After-put-pair
 put-pair-before-put-label-jump c = c .before .before .before .before
 
-add-left : tie.Need-add-left
-add-left c = search needs
+slot-of-requires : tie.Need-slot-of-requires
+slot-of-requires c κs = search needs
 
-add-right : tie.Need-add-right
-add-right c = search needs
+slot-of-requires-2 : tie.Need-slot-of-requires-2
+slot-of-requires-2 c κs = search needs
 
 jump-size-requires : tie.Need-jump-size-requires
 jump-size-requires c κs = search needs
 
 put-three-requires : tie.Need-put-three-requires
 put-three-requires c κs =
-    let entry = c .before .before .before in
-    branch-room (entry .args .base) (entry .args .v) (entry .args .y) (entry .args .z) (entry .args .l) (entry .args .m) (c .before .jump-size .ensures) (entry .pre .1)
+    let at-jump-size = c .before in
+    let at-slot-of2 = at-jump-size .before in
+    let entry = at-slot-of2 .before .before .before in
+    branch-room (entry .args .base) (entry .args .v) (entry .args .y .0) (entry .args .z .0) (entry .args .l) (entry .args .m) (at-slot-of2 .before .slot-of .ensures) (at-slot-of2 .slot-of2 .ensures) (at-jump-size .jump-size .ensures) (entry .pre .1)
 
 put-pair-requires : tie.Need-put-pair-requires
 put-pair-requires c κs =
     let at-put-three = c .before .before .before in
     let at-jump-size = at-put-three .before .before in
-    let entry = at-jump-size .before .before in (
+    let at-slot-of2 = at-jump-size .before in
+    let entry = at-slot-of2 .before .before .before in (
       omega (arith, at-jump-size .jump-size .ensures, entry .pre .0 .1),
-      branch-pair-room (entry .args .base) (entry .args .v) (entry .args .y) (entry .args .z) (entry .args .l)
-          (entry .args .m) (at-jump-size .jump-size .ensures) (entry .pre .1) (at-put-three .put-three .ensures),
+      branch-pair-room (entry .args .base) (entry .args .v) (entry .args .y .0) (entry .args .z .0) (entry .args .l)
+          (entry .args .m) (at-slot-of2 .before .slot-of .ensures) (at-slot-of2 .slot-of2 .ensures) (at-jump-size .jump-size .ensures) (entry .pre .1) (at-put-three .put-three .ensures),
     )
 
 put-label-jump-requires : tie.Need-put-label-jump-requires
@@ -41,9 +44,10 @@ put-label-jump-requires c κs =
     let at-put-pair = c .before .before .before in
     let at-put-three = put-three-before-put-pair at-put-pair in
     let at-jump-size = at-put-three .before .before in
-    let entry = at-jump-size .before .before in (
+    let at-slot-of2 = at-jump-size .before in
+    let entry = at-slot-of2 .before .before .before in (
       (entry .pre .0 .0, entry .pre .0 .1),
-      branch-then-room (entry .args .base) (entry .args .v) (entry .args .y) (entry .args .z) (entry .args .l) (entry .args .m) (at-jump-size .jump-size .ensures) (entry .pre .1)
+      branch-then-room (entry .args .base) (entry .args .v) (entry .args .y .0) (entry .args .z .0) (entry .args .l) (entry .args .m) (at-slot-of2 .before .slot-of .ensures) (at-slot-of2 .slot-of2 .ensures) (at-jump-size .jump-size .ensures) (entry .pre .1)
           (at-put-three .put-three .ensures) (at-put-pair .put-pair .ensures),
     )
 
@@ -53,9 +57,10 @@ put-label-jump-requires-2 c κs =
     let at-put-pair = put-pair-before-put-label-jump at-put-label-jump in
     let at-put-three = put-three-before-put-pair at-put-pair in
     let at-jump-size = at-put-three .before .before in
-    let entry = at-jump-size .before .before in (
+    let at-slot-of2 = at-jump-size .before in
+    let entry = at-slot-of2 .before .before .before in (
       (entry .pre .0 .0, entry .pre .0 .1),
-      branch-else-room (entry .args .base) (entry .args .v) (entry .args .y) (entry .args .z) (entry .args .l) (entry .args .m) (at-jump-size .jump-size .ensures) (entry .pre .1)
+      branch-else-room (entry .args .base) (entry .args .v) (entry .args .y .0) (entry .args .z .0) (entry .args .l) (entry .args .m) (at-slot-of2 .before .slot-of .ensures) (at-slot-of2 .slot-of2 .ensures) (at-jump-size .jump-size .ensures) (entry .pre .1)
           (at-put-three .put-three .ensures) (at-put-pair .put-pair .ensures) (at-put-label-jump .put-label-jump .ensures),
     )
 
@@ -68,16 +73,17 @@ returns c =
     let at-put-pair = put-pair-before-put-label-jump at-put-label-jump in
     let at-put-three = put-three-before-put-pair at-put-pair in
     let at-jump-size = at-put-three .before .before in
-    let entry = at-jump-size .before .before in
-    branch-wrote (entry .args .base) (entry .args .v) (entry .args .y) (entry .args .z) (entry .args .l) (entry .args .m) (at-jump-size .jump-size .ensures) (entry .pre .1)
+    let at-slot-of2 = at-jump-size .before in
+    let entry = at-slot-of2 .before .before .before in
+    branch-wrote (entry .args .base) (entry .args .v) (entry .args .y .0) (entry .args .z .0) (entry .args .l) (entry .args .m) (at-slot-of2 .before .slot-of .ensures) (at-slot-of2 .slot-of2 .ensures) (at-jump-size .jump-size .ensures) (entry .pre .1)
     (at-put-three .put-three .ensures) (at-put-pair .put-pair .ensures) (at-put-label-jump .put-label-jump .ensures) (c .before .before .put-label-jump2 .ensures)
 
 pub put-branch-spec : {M : Type 1} → statement M
 put-branch-spec =
     tie.close
     (tie.spec
-    add-left
-    add-right
+    slot-of-requires
+    slot-of-requires-2
     jump-size-requires
     put-three-requires
     put-pair-requires

@@ -1,6 +1,6 @@
 -- `translator_bytes::jumps::put_call` meets its contract.
 use Rattle.translator_bytes.specs.JumpLaws.{plain-as, guarded-as, room-as, wrote-as}
-use lib.ListN.{take, drop}
+use Rattle.procedure_operations.specs.Operation.{argumentsAt}
 use borrow.Author.Needs.{needs}
 use Rattle.translator_bytes.proofs.jumps.put_call.Statement.{statement}
 use Rattle.translator_bytes.proofs.jumps.put_call.Tie as tie
@@ -9,16 +9,15 @@ put-plain-call-requires : tie.Need-put-plain-call-requires
 put-plain-call-requires c κs =
     let entry = c .before .before .before .before in (
       (entry .pre .0 .1, entry .pre .0 .2, entry .pre .0 .3, entry .pre .0 .4, entry .pre .0 .5),
-      room-as (plain-as (entry .args .base) (entry .args .v) (entry .args .h) (entry .args .x) (entry .args .g) (entry .args .n)
-          (take (entry .args .n) (drop (entry .args .from) (entry .args .file .now))) (c .before .if1 .taken)) (entry .pre .1),
+      room-as (plain-as (entry .args .base) (entry .args .v) (entry .args .h) (entry .args .x .0) (entry .args .g) (entry .args .n)
+          (argumentsAt (entry .args .file .now) (entry .args .at) (entry .args .n)) (c .before .if1 .taken)) (entry .pre .1),
     )
 
 put-guarded-call-requires : tie.Need-put-guarded-call-requires
 put-guarded-call-requires c κs =
     let entry = c .before .before .before .before in (
       entry .pre .0,
-      room-as (guarded-as (entry .args .base) (entry .args .v) (entry .args .h) (entry .args .x) (entry .args .g) (entry .args .n) (take (entry .args .n)
-          (drop (entry .args .from) (entry .args .file .now))) (c .before .if1 .left)) (entry .pre .1),
+      room-as (guarded-as (entry .args .base) (entry .args .v) (entry .args .h) (entry .args .x .0) (entry .args .g) (entry .args .n) (argumentsAt (entry .args .file .now) (entry .args .at) (entry .args .n)) (c .before .if1 .left)) (entry .pre .1),
     )
 
 same-length : tie.Need-same-length
@@ -29,8 +28,7 @@ returns c =
     let at-if1 = c .before .before .before .before in
     let entry = at-if1 .before .before .before in
     wrote-as
-    (plain-as (entry .args .base) (entry .args .v) (entry .args .h) (entry .args .x) (entry .args .g) (entry .args .n) (take (entry .args .n) (drop (entry .args .from)
-    (entry .args .file .now))) (at-if1 .if1 .taken))
+    (plain-as (entry .args .base) (entry .args .v) (entry .args .h) (entry .args .x .0) (entry .args .g) (entry .args .n) (argumentsAt (entry .args .file .now) (entry .args .at) (entry .args .n)) (at-if1 .if1 .taken))
     (c .before .before .put-plain-call .ensures)
 
 same-length-2 : tie.Need-same-length-2
@@ -41,8 +39,7 @@ returns-2 c =
     let at-if1 = c .before .before .before .before in
     let entry = at-if1 .before .before .before in
     wrote-as
-    (guarded-as (entry .args .base) (entry .args .v) (entry .args .h) (entry .args .x) (entry .args .g) (entry .args .n) (take (entry .args .n) (drop (entry .args .from)
-    (entry .args .file .now))) (at-if1 .if1 .left))
+    (guarded-as (entry .args .base) (entry .args .v) (entry .args .h) (entry .args .x .0) (entry .args .g) (entry .args .n) (argumentsAt (entry .args .file .now) (entry .args .at) (entry .args .n)) (at-if1 .if1 .left))
     (c .before .before .put-guarded-call .ensures)
 
 pub put-call-spec : {M : Type 1} → statement M

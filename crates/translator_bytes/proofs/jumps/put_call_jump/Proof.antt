@@ -4,7 +4,7 @@ use Rattle.translator_bytes.specs.WriteLaws.{room-front, room-back, wrot
 use Rattle.translator_bytes.specs.Bytes.{jumpHead, callJump}
 use Rattle.semantics.specs.Translation.{slotOf}
 use mathlib.Core.List.{map}
-use lib.ListN.{take, drop}
+use Rattle.procedure_operations.specs.Operation.{argumentsAt}
 use borrow.Author.Needs.{needs}
 use Rattle.translator_bytes.proofs.jumps.put_call_jump.Statement.{statement}
 use Rattle.translator_bytes.proofs.jumps.put_call_jump.Tie as tie
@@ -14,8 +14,7 @@ unfolding callJump
 put-jump-head-requires c κs =
     let entry = c .before .before .before in (
       entry .pre .0 .0,
-      room-front (jumpHead (entry .args .g) (entry .args .k) (entry .args .h) (entry .args .n)) (map slotOf (take (entry .args .n)
-          (drop (entry .args .from) (entry .args .file .now)))) (entry .pre .1),
+      room-front (jumpHead (entry .args .g) (entry .args .k) (entry .args .h) (entry .args .n)) (map slotOf (argumentsAt (entry .args .file .now) (entry .args .at) (entry .args .n))) (entry .pre .1),
     )
 
 put-arguments-requires : tie.Need-put-arguments-requires
@@ -23,9 +22,9 @@ unfolding callJump
 put-arguments-requires c κs =
     let at-put-jump-head = c .before .before .before in
     let entry = at-put-jump-head .before .before .before .before in (
-      (entry .pre .0 .1 .inside, entry .pre .0 .1 .small),
+      entry .pre .0 .1,
       room-back (jumpHead (entry .args .g) (entry .args .k) (entry .args .h) (entry .args .n))
-          (map slotOf (take (entry .args .n) (drop (entry .args .from) (entry .args .file .now)))) (entry .pre .1) (at-put-jump-head .put-jump-head .ensures),
+          (map slotOf (argumentsAt (entry .args .file .now) (entry .args .at) (entry .args .n))) (entry .pre .1) (at-put-jump-head .put-jump-head .ensures),
     )
 
 same-length : tie.Need-same-length
@@ -37,7 +36,7 @@ returns c =
     let at-put-jump-head = c .before .before .before .before .before .before in
     let entry = at-put-jump-head .before .before .before .before in
     wrote-both (jumpHead (entry .args .g) (entry .args .k) (entry .args .h) (entry .args .n))
-    (map slotOf (take (entry .args .n) (drop (entry .args .from) (entry .args .file .now)))) (entry .pre .1) (at-put-jump-head .put-jump-head .ensures)
+    (map slotOf (argumentsAt (entry .args .file .now) (entry .args .at) (entry .args .n))) (entry .pre .1) (at-put-jump-head .put-jump-head .ensures)
     (c .before .before .put-arguments .ensures)
 
 pub put-call-jump-spec : {M : Type 1} → statement M

@@ -1,14 +1,14 @@
 -- `translator_bytes::jumps::put_guarded_call` meets its contract.
 use Rattle.translator_bytes.specs.JumpLaws.{guarded-room, guarded-pair-room, guarded-jump-room, guarded-length-room, guarded-label-room, guarded-wrote}
 use native.Mathlib.Omega.{arith}
-use lib.ListN.{take, drop}
+use Rattle.procedure_operations.specs.Operation.{argumentsAt}
 use borrow.Author.Needs.{needs}
 use Rattle.translator_bytes.proofs.jumps.put_guarded_call.Statement.{statement}
 use Rattle.translator_bytes.proofs.jumps.put_guarded_call.Tie as tie
 
 -- Ways back to earlier places that several answers take.
 abbrev entry-before-jump-size : tie.After-jump-size → tie.Start
-entry-before-jump-size c = c .before .before .before
+entry-before-jump-size c = c .before .before .before .before
 
 abbrev put-four-before-put-pair : tie.After-put-pair → tie.After-put-four
 put-four-before-put-pair c = c .before .before .before .before
@@ -22,8 +22,8 @@ put-call-jump-before-put-pair2 c = c .before .before .before .before
 add-k : tie.Need-add-k
 add-k c = search needs
 
-add-target : tie.Need-add-target
-add-target c = search needs
+slot-of-requires : tie.Need-slot-of-requires
+slot-of-requires c κs = search needs
 
 add-t : tie.Need-add-t
 add-t c = search needs
@@ -36,9 +36,11 @@ jump-size-requires-2 c κs = search needs
 
 put-four-requires : tie.Need-put-four-requires
 put-four-requires c κs =
-    let entry = c .before .before .before .before .before in
-    guarded-room (entry .args .base) (entry .args .v) (entry .args .h) (entry .args .x) (entry .args .g) (entry .args .n)
-    (take (entry .args .n) (drop (entry .args .from) (entry .args .file .now))) (c .before .before .jump-size .ensures) (c .before .jump-size2 .ensures) (entry .pre .1)
+    let at-jump-size2 = c .before in
+    let at-jump-size = at-jump-size2 .before in
+    let entry = entry-before-jump-size at-jump-size in
+    guarded-room (entry .args .base) (entry .args .v) (entry .args .h) (entry .args .x .0) (entry .args .g) (entry .args .n)
+    (argumentsAt (entry .args .file .now) (entry .args .at) (entry .args .n)) (at-jump-size .before .slot-of .ensures) (at-jump-size .jump-size .ensures) (at-jump-size2 .jump-size2 .ensures) (entry .pre .1)
 
 put-pair-requires : tie.Need-put-pair-requires
 put-pair-requires c κs =
@@ -47,8 +49,8 @@ put-pair-requires c κs =
     let at-jump-size = at-jump-size2 .before in
     let entry = entry-before-jump-size at-jump-size in (
       omega (arith, at-jump-size .jump-size .ensures, entry .pre .0 .3),
-      guarded-pair-room (entry .args .base) (entry .args .v) (entry .args .h) (entry .args .x) (entry .args .g)
-          (entry .args .n) (take (entry .args .n) (drop (entry .args .from) (entry .args .file .now))) (at-jump-size .jump-size .ensures) (at-jump-size2 .jump-size2 .ensures)
+      guarded-pair-room (entry .args .base) (entry .args .v) (entry .args .h) (entry .args .x .0) (entry .args .g)
+          (entry .args .n) (argumentsAt (entry .args .file .now) (entry .args .at) (entry .args .n)) (at-jump-size .before .slot-of .ensures) (at-jump-size .jump-size .ensures) (at-jump-size2 .jump-size2 .ensures)
           (entry .pre .1) (at-put-four .put-four .ensures),
     )
 
@@ -60,8 +62,8 @@ put-call-jump-requires c κs =
     let at-jump-size = at-jump-size2 .before in
     let entry = entry-before-jump-size at-jump-size in (
       (entry .pre .0 .4, entry .pre .0 .5),
-      guarded-jump-room (entry .args .base) (entry .args .v) (entry .args .h) (entry .args .x) (entry .args .g) (entry .args .n)
-          (take (entry .args .n) (drop (entry .args .from) (entry .args .file .now))) (at-jump-size .jump-size .ensures) (at-jump-size2 .jump-size2 .ensures) (entry .pre .1)
+      guarded-jump-room (entry .args .base) (entry .args .v) (entry .args .h) (entry .args .x .0) (entry .args .g) (entry .args .n)
+          (argumentsAt (entry .args .file .now) (entry .args .at) (entry .args .n)) (at-jump-size .before .slot-of .ensures) (at-jump-size .jump-size .ensures) (at-jump-size2 .jump-size2 .ensures) (entry .pre .1)
           (at-put-four .put-four .ensures) (at-put-pair .put-pair .ensures),
     )
 
@@ -74,8 +76,8 @@ put-pair-requires-2 c κs =
     let at-jump-size = at-jump-size2 .before in
     let entry = entry-before-jump-size at-jump-size in (
       omega (arith, at-jump-size2 .jump-size2 .ensures, entry .pre .0 .1),
-      guarded-length-room (entry .args .base) (entry .args .v) (entry .args .h) (entry .args .x) (entry .args .g) (entry .args .n)
-          (take (entry .args .n) (drop (entry .args .from) (entry .args .file .now))) (at-jump-size .jump-size .ensures) (at-jump-size2 .jump-size2 .ensures) (entry .pre .1)
+      guarded-length-room (entry .args .base) (entry .args .v) (entry .args .h) (entry .args .x .0) (entry .args .g) (entry .args .n)
+          (argumentsAt (entry .args .file .now) (entry .args .at) (entry .args .n)) (at-jump-size .before .slot-of .ensures) (at-jump-size .jump-size .ensures) (at-jump-size2 .jump-size2 .ensures) (entry .pre .1)
           (at-put-four .put-four .ensures) (at-put-pair .put-pair .ensures) (at-put-call-jump .put-call-jump .ensures),
     )
 
@@ -89,8 +91,8 @@ put-label-jump-requires c κs =
     let at-jump-size = at-jump-size2 .before in
     let entry = entry-before-jump-size at-jump-size in (
       (entry .pre .0 .0, entry .pre .0 .1),
-      guarded-label-room (entry .args .base) (entry .args .v) (entry .args .h) (entry .args .x) (entry .args .g) (entry .args .n)
-          (take (entry .args .n) (drop (entry .args .from) (entry .args .file .now))) (at-jump-size .jump-size .ensures) (at-jump-size2 .jump-size2 .ensures) (entry .pre .1)
+      guarded-label-room (entry .args .base) (entry .args .v) (entry .args .h) (entry .args .x .0) (entry .args .g) (entry .args .n)
+          (argumentsAt (entry .args .file .now) (entry .args .at) (entry .args .n)) (at-jump-size .before .slot-of .ensures) (at-jump-size .jump-size .ensures) (at-jump-size2 .jump-size2 .ensures) (entry .pre .1)
           (at-put-four .put-four .ensures) (at-put-pair .put-pair .ensures) (at-put-call-jump .put-call-jump .ensures) (at-put-pair2 .put-pair2 .ensures),
     )
 
@@ -106,8 +108,8 @@ returns c =
     let at-jump-size2 = at-put-four .before .before in
     let at-jump-size = at-jump-size2 .before in
     let entry = entry-before-jump-size at-jump-size in
-    guarded-wrote (entry .args .base) (entry .args .v) (entry .args .h) (entry .args .x) (entry .args .g) (entry .args .n)
-    (take (entry .args .n) (drop (entry .args .from) (entry .args .file .now))) (at-jump-size .jump-size .ensures) (at-jump-size2 .jump-size2 .ensures) (entry .pre .1)
+    guarded-wrote (entry .args .base) (entry .args .v) (entry .args .h) (entry .args .x .0) (entry .args .g) (entry .args .n)
+    (argumentsAt (entry .args .file .now) (entry .args .at) (entry .args .n)) (at-jump-size .before .slot-of .ensures) (at-jump-size .jump-size .ensures) (at-jump-size2 .jump-size2 .ensures) (entry .pre .1)
     (at-put-four .put-four .ensures) (at-put-pair .put-pair .ensures) (at-put-call-jump .put-call-jump .ensures) (at-put-pair2 .put-pair2 .ensures)
     (c .before .before .put-label-jump .ensures)
 
@@ -116,7 +118,7 @@ put-guarded-call-spec =
     tie.close
     (tie.spec
     add-k
-    add-target
+    slot-of-requires
     add-t
     jump-size-requires
     jump-size-requires-2
