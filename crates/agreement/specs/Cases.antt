@@ -12,7 +12,7 @@ use Rattle.semantics.specs.WellFormed.{All}
 use Rattle.semantics.specs.Controller.{controlStep, controller}
 use Rattle.semantics.specs.Translation.{code, translate}
 use Rattle.semantics.specs.Extras.{extras}
-use Rattle.parsing.specs.Parser.{Verdict, accepted, refused}
+use Rattle.parsing.specs.Parser.{Verdict, refused}
 use Rattle.parsing.specs.Fields as Fields
 use Rattle.procedure_operations.specs.Operation as Operation
 use Rattle.procedure_layout.specs.Layout as Layout
@@ -21,6 +21,8 @@ use Rattle.procedure_file.specs.Check.{checkOf, programOf}
 use Rattle.target_tags.specs.Tag as Tag
 use Rattle.target_names.specs.Names as TagNames
 use Rattle.target_file.specs.Check as Target
+use Rattle.target_parts.specs.Parts as Parts
+use Rattle.target_expressions.specs.Expressions as Expressions
 use Rattle.target_layout.specs.Layout as TargetLayout
 use Rattle.target_file.specs.Writing as Writing
 use Rattle.translator.specs.Translated.{translationOf, roomVerdict}
@@ -102,5 +104,12 @@ table =
     ∷ []
 
 pub cases : All Holds table
-unfolding sidesTell controllerBudget sidesVerdict callVerdict argumentsVerdict wordsVerdict roomVerdict translationOf checkOf programOf Layout.program Layout.function Layout.heading Layout.labelled Layout.block Layout.walk Operation.operationAt Operation.constantAt Operation.copyAt Operation.differenceAt Operation.callAt Operation.gotoAt Operation.returnAt Operation.branchAt Operation.endAt Fields.head Fields.version Fields.count Fields.ended Fields.valueOf Names.namesOf Writing.writing Target.codeOf TargetLayout.code TargetLayout.targets TargetLayout.functions TargetLayout.function TargetLayout.expression TargetLayout.pair Tag.tagAt Tag.constantAt Tag.copyAt Tag.differenceAt Tag.jumpAt Tag.resumeAt Tag.handleAt Tag.branchAt Tag.continuationAt Tag.continuationWithHandlerAt TagNames.judged wrapped minus atMost step bench code translate controlStep controller extras
+unfolding sidesTell controllerBudget sidesVerdict callVerdict argumentsVerdict wordsVerdict roomVerdict translationOf checkOf
+    programOf Layout.program Layout.function Layout.heading Layout.labelled Layout.block Layout.walk Operation.operationAt
+    Operation.constantAt Operation.copyAt Operation.differenceAt Operation.callAt Operation.gotoAt Operation.returnAt
+    Operation.branchAt Operation.endAt Fields.head Fields.version Fields.count Fields.ended Fields.valueOf Names.namesOf
+    Writing.writing Target.codeOf TargetLayout.code TargetLayout.targets TargetLayout.functions TargetLayout.function
+    Expressions.expression Parts.pair Parts.levelVerdict Tag.tagAt Tag.constantAt Tag.copyAt Tag.differenceAt Tag.jumpAt
+    Tag.resumeAt Tag.handleAt Tag.branchAt Tag.continuationAt Tag.continuationWithHandlerAt TagNames.judged wrapped minus atMost
+    step bench code translate controlStep controller extras
 cases = (refl, (refl, (refl, (refl, (refl, (refl, (refl, (refl, (refl, (refl, ((λ b. refl), (refl, (refl, (refl, (refl, tt)))))))))))))))

@@ -14,9 +14,9 @@ use Rattle.parsing.specs.Parser.{Verdict, accepted, orElse, verdictOf}
 use Rattle.parsing.specs.Bytes.{Bytes}
 use Rattle.memory.specs.Frame.{frameSize}
 use Rattle.memory.specs.Call.{maxDepth, argumentsVerdict, wordsVerdict}
+use Rattle.target_tags.specs.Tag.{fileLimit}
 use Rattle.runs.specs.Tells.{Tells, tells, tellsBy, toldOf, ChangedBy}
 use Rattle.procedure_file.specs.Check.{checkOf, programOf}
-use Rattle.target_layout.specs.Layout.{fileLimit}
 use Rattle.translator.specs.Translated.{translationOf, roomVerdict}
 use Rattle.bench.specs.Published as Bench
 use Rattle.controller.specs.Published as Controller

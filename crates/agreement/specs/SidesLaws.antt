@@ -19,7 +19,7 @@ use Rattle.parsing.specs.VerdictLaws.{or-accepted}
 use Rattle.memory.specs.Call.{argumentsVerdict, wordsVerdict}
 use Rattle.memory.specs.CallLaws.{fitting-arguments, fitting-words}
 use Rattle.runs.specs.Stopped.{stoppedAs}
-use Rattle.runs.specs.Tells.{Tells, tells, tellsBy, toldOf, ChangedBy}
+use Rattle.runs.specs.Tells.{tells, tellsBy, toldOf, ChangedBy}
 use Rattle.runs.specs.TellsLaws.{answered}
 use Rattle.procedure_names.specs.Writing.{FunctionInRange}
 use Rattle.procedure_file.specs.Check.{checkOf, programOf}
@@ -35,7 +35,7 @@ use Rattle.controller.specs.declared.machine.Answer as ControllerAnswer
 use Rattle.controller.specs.Published as Controller
 use Rattle.agreement.specs.declared.Sides.{Sides}
 use Rattle.agreement.specs.Statement.{entryOf, controllerBudget, Claim}
-use Rattle.agreement.specs.Sides.{callVerdict, sidesVerdict, Told, sidesTold, controllerRun, runsTell, sidesTell, Memory, RanTogether, Ran, SidesMemory, refusedSides, CallFits, MachinesRan}
+use Rattle.agreement.specs.Sides.{callVerdict, sidesVerdict, Told, sidesTold, controllerRun, runsTell, sidesTell, Memory, Ran, SidesMemory, refusedSides, CallFits, MachinesRan}
 use Rattle.agreement.specs.Theorem.{ran-alike, stops-match, files-agree}
 
 locals-bound : (P : Program) → All FunctionInRange P → (g : ℕ) → functionOf P g .locals ≤ 24

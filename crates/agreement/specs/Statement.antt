@@ -23,8 +23,7 @@ use Rattle.parsing.specs.Bytes.{Bytes}
 use Rattle.memory.specs.Frame.{frameSize}
 use Rattle.memory.specs.Call.{maxDepth}
 use Rattle.procedure_file.specs.Check as Procedure
-use Rattle.target_tags.specs.Tag.{maxSlots}
-use Rattle.target_layout.specs.Layout.{fileLimit}
+use Rattle.target_tags.specs.Tag.{fileLimit, maxSlots}
 use Rattle.target_file.specs.Check as Target
 use Rattle.translator.specs.Translated.{translationOf}
 use Rattle.runs.specs.Tells.{Tells, refuses, tells}

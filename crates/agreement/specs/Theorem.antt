@@ -1,6 +1,5 @@
 -- Demand 3 over files, proved: from the theorem of the rules and what the two file crates promise.
 use Prim.Native.Nat.{ℕ, _+_, _*_, _≤_, _<_}
-use native.Mathlib.Omega.{arith}
 use mathlib.Core.Path.{_≡_, refl, sym, ap, _∙_, subst}
 use mathlib.Core.List.{List, [], _∷_}
 use lib.IntN.{ℤ}
@@ -8,9 +7,9 @@ use lib.ListN.{length}
 use Rattle.semantics.specs.Program.{FunctionNumber, Block, constant, copy, difference, call, goto, return, branch, raise, Labelled, Function, Program, functionOf}
 use Rattle.semantics.specs.WellFormed.{All, WellFormedState}
 use Rattle.semantics.specs.Code.{Target, Code}
-use Rattle.semantics.specs.Run.{Stop, ended, spent, deep, broken, IsBroken, Result, told, oneMoreIfDeep, spentIfDeep}
+use Rattle.semantics.specs.Run.{Stop, ended, spent, deep, broken, IsBroken, Result, told, oneMoreIfDeep}
 use Rattle.semantics.specs.Bench.{State, waiting, bench}
-use Rattle.semantics.specs.Controller.{Control, inUse, controller, targetOf, noTarget}
+use Rattle.semantics.specs.Controller.{inUse, controller, targetOf, noTarget}
 use Rattle.semantics.specs.SlotStates.{StateKeeps}
 use Rattle.semantics.specs.Translation.{entryTarget, number, translate}
 use Rattle.semantics.specs.Extras.{extras}
@@ -21,10 +20,9 @@ use Rattle.semantics.specs.Theorem.{demand3, bench-is-sound}
 use Rattle.semantics.specs.SlotStateLaws.{controller-is-sound}
 use Rattle.semantics.specs.StopLaws.{Together, together, Exactly, exactly, bench-again, controller-left}
 use Rattle.parsing.specs.Parser.{Verdict, accepted, refused}
-use Rattle.parsing.specs.Bytes.{Bytes}
 use Rattle.memory.specs.CallLaws.{call-fits}
 use Rattle.runs.specs.Tells.{tells, tellsBy, toldOf}
-use Rattle.procedure_names.specs.Writing.{ValuesFit, FunctionInRange, InRange}
+use Rattle.procedure_names.specs.Writing.{ValuesFit, FunctionInRange}
 use Rattle.procedure_file.specs.Check as Procedure
 use Rattle.procedure_file.specs.Accepted.{HasFile}
 use Rattle.procedure_file.specs.AcceptedLaws.{is-writing}
@@ -37,7 +35,7 @@ use Rattle.bench.specs.Published.{benchVerdict, benchTells}
 use Rattle.bench.specs.Published as Bench
 use Rattle.controller.specs.Published.{controllerVerdict, controllerTells}
 use Rattle.controller.specs.Published as Controller
-use Rattle.agreement.specs.Statement.{NeverBroken, FilesMove, entryOf, translationRun, controllerBudget, AnswersDeep, AnswersAgree, Claim, FilesAgree}
+use Rattle.agreement.specs.Statement.{NeverBroken, FilesMove, entryOf, translationRun, controllerBudget, AnswersAgree, Claim, FilesAgree}
 
 -- The ranges of a procedure, as the crate of translated files has them.
 block-fits : (b : Block) → ValuesFit b → BlockFits b

@@ -1,8 +1,10 @@
 // Words lent to a machine, 48 a frame: how many, and what they hold after a run.
 use crate::record::least;
+use memory::FRAME_SIZE;
 ghost use Prim.Native.Nat.{_+_, _-_, _*_, min};
 ghost use mathlib.Core.Path.{_≡_};
 ghost use lib.ListN.{length};
+ghost use Rattle.memory.specs.Frame.{frameSize};
 ghost use Rattle.case_fields.specs.Record.{Front};
 ghost use Rattle.case_fields.specs.Words.{every};
 
@@ -12,13 +14,13 @@ pub const UNTOUCHED: i32 = 7;
 // How many of `words` are lent: 48 for each frame of the depth and delta more, less 128, as far as there are so many.
 pub fn lent(words: &[i32], depth: usize, delta: u8) -> usize
     ensures { λ r. ⌜ Front r (now (words .entry)) ⌝ }
-    ensures { λ r. ⌜ r ≡ min (48 * depth + delta - 128) (length (now (words .entry))) ⌝ }
+    ensures { λ r. ⌜ r ≡ min (frameSize * depth + delta - 128) (length (now (words .entry))) ⌝ }
 {
     let most = words.len();
-    if most / 48 + 3 < depth {
+    if most / FRAME_SIZE + 3 < depth {
         return most;
     }
-    let want = 48 * depth + (delta as usize);
+    let want = FRAME_SIZE * depth + (delta as usize);
     if want < 128 {
         return 0;
     }

@@ -4,6 +4,8 @@ use crate::print::say;
 use crate::print::value;
 use case_fields::words::UNTOUCHED;
 use case_fields::words::all_are;
+use memory::FRAME_SIZE;
+use memory::MAX_DEPTH;
 use parsing::Refusal;
 use runs::End;
 use runs::Stopped;
@@ -47,8 +49,8 @@ pub fn print_stop(stopped: Stopped, n: usize) -> usize
 pub fn print_frames(words: &[i32], frames: usize, k: usize) {
     let mut i = 0;
     while i < words.len() {
-        if i / 48 < frames {
-            if i % 48 < k {
+        if i / FRAME_SIZE < frames {
+            if i % FRAME_SIZE < k {
                 value(words[i]);
             }
         }
@@ -72,9 +74,9 @@ pub fn print_refused(r: Refusal, words: &[i32]) {
 // The words behind the frames in use: `cleared` where those up to the depth are 0, `kept` where those past it are as they were.
 pub fn print_rest(words: &[i32], frames: usize, depth: usize) {
     if frames <= depth {
-        if depth <= 256 {
-            let from = 48 * frames;
-            let to = 48 * depth;
+        if depth <= MAX_DEPTH {
+            let from = FRAME_SIZE * frames;
+            let to = FRAME_SIZE * depth;
             if to <= words.len() {
                 if all_are(&words[from..to], 0) {
                     say(b" cleared");

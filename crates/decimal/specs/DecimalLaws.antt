@@ -11,7 +11,6 @@ use lib.Signed.{ltZ}
 use lib.ListN.{length, set, getD, length-append}
 use lib.Seq.{take-length}
 use borrow.Author.Tests.{ltb-true, lt-ltb, le-ltb}
-use Rattle.semantics.specs.Run.{value}
 use Rattle.memory.specs.Lay.{lay}
 use Rattle.memory.specs.LayLaws.{length-lay, join, lay-one, Copied, copied-more, copied-all}
 use Rattle.decimal.specs.Decimal.{digits, decimal, signed, numbered}

@@ -1,5 +1,5 @@
 -- `report::report` meets its contract.
-use mathlib.Core.Path.{refl, sym, ap, _∙_}
+use mathlib.Core.Path.{refl, sym, _∙_}
 use native.Mathlib.Omega.{arith}
 use lib.Seq.{length-take-le}
 use Rattle.report.specs.ReportLaws.{no-byte, no-header, with-header, wrote-as, wrote-within}

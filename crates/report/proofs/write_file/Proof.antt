@@ -1,5 +1,4 @@
 -- `report::write_file` meets its contract.
-use native.Mathlib.Omega.{arith}
 use Rattle.procedure_file.specs.LoadedLaws.{loaded}
 use Rattle.report.specs.ReportLaws.{head-refused, file-refused, file-loaded, wrote-as}
 use borrow.Author.Needs.{needs}
