@@ -1,4 +1,4 @@
--- The numbers of refusals (document 01, 'What is turned down, by who can cause it').
+-- The numbers of refusals (document 01, 'What is turned down, by who can cause it'; from 18 on document 02).
 use Prim.Native.Nat.{ℕ}
 
 -- "1 wrong mark byte."
@@ -68,3 +68,7 @@ noRoom = 16
 -- "17 translation above 65,535 bytes." "Places of 14, 16 and 17 are 0."
 abbrev pub translationTooLong : ℕ
 translationTooLong = 17
+
+-- "18 at 0 when the run was refused or did not end, or its steps and extras together pass 64 bits."
+abbrev pub noCharge : ℕ
+noCharge = 18

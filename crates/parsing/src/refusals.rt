@@ -1,4 +1,4 @@
-// The numbers of refusals (document 01, 'What is turned down, by who can cause it').
+// The numbers of refusals (document 01, 'What is turned down, by who can cause it'; from 18 on document 02).
 
 // "1 wrong mark byte."
 pub const WRONG_MARK: u8 = 1;
@@ -34,3 +34,5 @@ pub const FILE_TOO_LONG: u8 = 15;
 pub const NO_ROOM: u8 = 16;
 // "17 translation above 65,535 bytes." "Places of 14, 16 and 17 are 0."
 pub const TRANSLATION_TOO_LONG: u8 = 17;
+// "18 at 0 when the run was refused or did not end, or its steps and extras together pass 64 bits."
+pub const NO_CHARGE: u8 = 18;

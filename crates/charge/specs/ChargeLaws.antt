@@ -1,0 +1,24 @@
+-- The charge of what an answer tells, as the code has it.
+use Prim.Native.Nat.{ℕ, _+_, _<_}
+use mathlib.Core.Path.{_≡_, refl}
+use lib.Dec.{leb}
+use borrow.Author.Tests.{lt-leb}
+use Rattle.semantics.specs.Run.{Stop, ended, spent, deep, broken}
+use Rattle.parsing.specs.Parser.{Verdict, accepted, refused}
+use Rattle.runs.specs.Tells.{refuses, tellsBy}
+use Rattle.bench.specs.Published.{Told}
+use Rattle.charge.specs.Charge.{maxSteps, charge, withExtras}
+
+-- Steps that pass 64 bits have no charge, however the run stopped.
+pub past-uncharged : (v : Verdict) (stop : Stop (Unit {0})) (n : ℕ) → maxSteps < n → charge (tellsBy v (record { stop = stop; steps = n })) ≡ refuses 18 0
+unfolding charge
+past-uncharged accepted (ended e) n h = rw (lt-leb n maxSteps h)
+past-uncharged accepted (spent s) n h = refl
+past-uncharged accepted (deep s) n h = refl
+past-uncharged accepted (broken s) n h = refl
+past-uncharged (refused number place) stop n h = refl
+
+-- Extras are added to what an accepted call tells.
+pub extras-added : (v : Verdict) (t : Told) → withExtras (tellsBy v t) ≡ tellsBy v (record { stop = t .result .stop; steps = t .result .steps + t .extras })
+extras-added accepted t = refl
+extras-added (refused number place) t = refl

@@ -1,0 +1,101 @@
+// The charge of a run, in cents, from the answer of either machine (document 02, Slip 1).
+use parsing::Checked;
+use parsing::Refusal;
+use parsing::refusals;
+use runs::Stopped;
+ghost use Prim.Native.Nat.{min};
+ghost use mathlib.Core.Path.{_≡_};
+ghost use Rattle.parsing.specs.Refusals.{noCharge};
+ghost use Rattle.parsing.specs.Parser.{refusal, verdictOf};
+ghost use Rattle.runs.specs.Stopped.{stoppedAs};
+ghost use Rattle.runs.specs.Tells.{tellsBy};
+ghost use Rattle.bench.specs.Published as Bench;
+ghost use Rattle.controller.specs.Published as Controller;
+ghost use Rattle.charge.specs.Charge.{startedAbove, cents, charge, withExtras, chargeAs};
+
+// The largest number of 64 bits.
+const MAX_STEPS: u64 = 18446744073709551615;
+
+// The answer: cents, or a refusal.
+pub enum Charge {
+    Cents(u64),
+    Refused(Refusal),
+}
+
+// The less of two numbers.
+fn least(a: u64, b: u64) -> u64
+    ensures { λ r. ⌜ r ≡ min a b ⌝ }
+{
+    if a < b { a } else { b }
+}
+
+// The thousands that so many steps have started above a border.
+fn started_above(border: u64, steps: u64) -> u64
+    ensures { λ r. ⌜ r ≡ startedAbove border steps ⌝ }
+{
+    if steps <= border {
+        return 0;
+    }
+    let more = steps - border;
+    (more - 1) / 1000 + 1
+}
+
+// "A procedure costs 250 cents. Each started thousand steps above 5,000 adds 3 cents, and each started thousand above 100,000 adds 2 in
+// place of 3."
+fn cents_of(steps: u64) -> u64
+    ensures { λ r. ⌜ r ≡ cents steps ⌝ }
+{
+    let near = started_above(5000, least(steps, 100000));
+    let far = started_above(100000, steps);
+    250 + 3 * near + 2 * far
+}
+
+// 18 at 0.
+fn no_charge() -> Refusal
+    ensures { λ r. ⌜ r ≡ refusal noCharge 0 ⌝ }
+{
+    Refusal {
+        number: refusals::NO_CHARGE,
+        place: 0,
+    }
+}
+
+// The charge of a call's run that stopped so, with so many controller steps.
+fn charge_of(verdict: Checked, stopped: Stopped, steps: u64) -> Charge
+    ensures { λ r. ⌜ chargeAs r ≡ charge (tellsBy (verdictOf verdict) (record { stop = stoppedAs stopped; steps = steps })) ⌝ }
+{
+    let none = no_charge();
+    let price = cents_of(steps);
+    match verdict {
+        Checked::Refused(_) => Charge::Refused(none),
+        Checked::Accepted => match stopped {
+            Stopped::Ended(_) => Charge::Cents(price),
+            Stopped::Spent => Charge::Refused(none),
+            Stopped::Deep => Charge::Refused(none),
+        },
+    }
+}
+
+// The charge of a run of the bench: from its steps and extras together.
+pub fn bench_charge(a: bench::machine::Answer) -> Charge
+    ensures { λ r. ⌜ chargeAs r ≡ charge (withExtras (Bench.toldBy a)) ⌝ }
+{
+    let verdict = a.verdict;
+    let stopped = a.stopped;
+    let steps = a.steps;
+    let extras = a.extras;
+    if MAX_STEPS - steps < extras {
+        return Charge::Refused(no_charge());
+    }
+    let sum = steps + extras;
+    charge_of(verdict, stopped, sum)
+}
+
+// The charge of a run of the controller: from its own count of steps.
+pub fn controller_charge(a: controller::machine::Answer) -> Charge
+    ensures { λ r. ⌜ chargeAs r ≡ charge (Controller.toldBy a) ⌝ }
+{
+    let verdict = a.verdict;
+    let stopped = a.stopped;
+    charge_of(verdict, stopped, a.steps)
+}
