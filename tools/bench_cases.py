@@ -59,7 +59,7 @@ for data, text in vectors("both.txt"):
         continue
     cases.append((140, data))
     given = next((line[6:] for line in text.split(" | ") if line.startswith("bench ")), text)
-    agree(data, given, expected(*cases[-1]).split(" extras")[0].removesuffix(" kept"))
+    agree(data.hex(), given, expected(*cases[-1]).split(" extras")[0].removesuffix(" kept"))
 
 write("bench_cases", (bytes([delta]) + little(len(data), 2) + data for delta, data in cases), (expected(*case) + "\n" for case in cases))
 print(len(cases), "cases")

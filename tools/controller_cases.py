@@ -44,7 +44,7 @@ for file, *fields in vectors("target.txt"):
         add(file, arguments, int(words[at + 1]), int(words[at + 3]))
         given = fields[1]
         short.append((file, arguments))
-    agree(file, given, expected(cases[-1]).split(" records")[0].removesuffix(" kept"))
+    agree(file.hex(), given, expected(cases[-1]).split(" records")[0].removesuffix(" kept"))
 
 # File T of document 01, translated.
 T = translation(PROCEDURE)

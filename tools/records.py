@@ -23,13 +23,18 @@ def shared(*names):
     return path
 
 
-def vectors(name):
-    """The lines of a file of vectors, each as its fields: the first is hexadecimal and given as bytes."""
+def lines(name):
+    """The lines of a file of vectors, each as its fields."""
     for line in open(shared("vectors", name)):
         line = line.split("#")[0].strip()
         if line:
-            first, *others = [field.strip() for field in line.split(":")]
-            yield bytes.fromhex(first), *others
+            yield [field.strip() for field in line.split(":")]
+
+
+def vectors(name):
+    """The same, where the first field is hexadecimal: it is given as bytes."""
+    for first, *others in lines(name):
+        yield bytes.fromhex(first), *others
 
 
 def little(n, size):
@@ -60,10 +65,10 @@ def judge_call(given, wanted, depth, delta):
         raise Refused(16, 0)
 
 
-def agree(data, given, ours):
+def agree(case, given, ours):
     """Ends the program where a vector gives another answer than the model."""
     if given != ours:
-        sys.exit(f"the vectors and the model differ at {data.hex()}: {given} | {ours}")
+        sys.exit(f"the vectors and the model differ at {case}: {given} | {ours}")
 
 
 def write(crate, records, answers):

@@ -15,7 +15,7 @@ def add(file, room):
 
 
 for file, given in vectors("translation.txt"):
-    agree(file, given, translation(file).hex())
+    agree(file.hex(), given, translation(file).hex())
     add(file, len(given) // 2)
 
 # Room for the translation of T exactly, one byte too few, none, and more: what stands behind the translation is kept.

@@ -1,15 +1,13 @@
 -- The side-by-side call, as the code has it.
-use Prim.Native.Nat.{ℕ, zero, suc, _+_, _*_, _≤_, _<_}
+use Prim.Native.Nat.{ℕ, _+_, _*_, _≤_, _<_}
 use native.Mathlib.Omega.{arith}
 use mathlib.Core.Path.{_≡_, refl, sym, ap, _∙_, subst}
-use mathlib.Core.List.{List, [], _∷_, _++_}
+use mathlib.Core.List.{List, _++_}
 use lib.IntN.{ℤ}
 use lib.ListN.{length, take, drop, length-append}
 use lib.Seq.{take-append-seam}
-use Rattle.semantics.specs.Program.{FunctionNumber, Program, functionOf}
-use Rattle.semantics.specs.WellFormed.{All}
+use Rattle.semantics.specs.Program.{FunctionNumber, functionOf}
 use Rattle.semantics.specs.Run.{Stop, ended, spent, deep, broken, Result, oneMoreIfDeep}
-use Rattle.semantics.specs.StopLaws.{bench-bound, extras-bound}
 use Rattle.parsing.specs.declared.Refusal.{Refusal}
 use Rattle.parsing.specs.declared.Checked.{Checked}
 use Rattle.parsing.specs.declared.Checked.the-variants.{Accepted, Refused}
@@ -21,10 +19,8 @@ use Rattle.memory.specs.CallLaws.{fitting-arguments, fitting-words}
 use Rattle.runs.specs.Stopped.{stoppedAs}
 use Rattle.runs.specs.Tells.{tells, tellsBy, toldOf, ChangedBy}
 use Rattle.runs.specs.TellsLaws.{answered}
-use Rattle.procedure_names.specs.Writing.{FunctionInRange}
 use Rattle.procedure_file.specs.Check.{checkOf, programOf}
 use Rattle.procedure_file.specs.Loaded.{Loaded}
-use Rattle.procedure_file.specs.AcceptedLaws.{is-writing}
 use Rattle.target_file.specs.Check as Target
 use Rattle.translator.specs.Translated.{translationOf, roomVerdict}
 use Rattle.translator.specs.AnswerLaws.{lay-front, fitting-room}
@@ -36,12 +32,7 @@ use Rattle.controller.specs.Published as Controller
 use Rattle.agreement.specs.declared.Sides.{Sides}
 use Rattle.agreement.specs.Statement.{entryOf, controllerBudget, Claim}
 use Rattle.agreement.specs.Sides.{callVerdict, sidesVerdict, Told, sidesTold, controllerRun, runsTell, sidesTell, Memory, Ran, SidesMemory, refusedSides, CallFits, MachinesRan}
-use Rattle.agreement.specs.Theorem.{ran-alike, stops-match, files-agree}
-
-locals-bound : (P : Program) → All FunctionInRange P → (g : ℕ) → functionOf P g .locals ≤ 24
-locals-bound [] a g = omega arith
-locals-bound (F ∷ Fs) a zero = a .0 .locals
-locals-bound (F ∷ Fs) a (suc g) = locals-bound Fs (a .1) g
+use Rattle.agreement.specs.Theorem.{few-steps, ran-alike, stops-match, files-agree}
 
 one-at-most : {S : Type 0} (o : Stop S) → oneMoreIfDeep o ≤ 1
 one-at-most (ended e) = omega arith
@@ -72,11 +63,8 @@ module _ {s : List ℕ} {f : FunctionNumber} {args : List ℤ} {depth : ℕ} {fr
 
     pub sum-small : budget < 4294967296 → a .steps + a .extras < 9223372036854775807
     sum-small h =
-        let k : Bench.runOf s f args depth budget .steps ≤ budget = bench-bound (programOf s) f args depth budget in
-        let l = extras-bound (programOf s) 24 (locals-bound (programOf s) (is-writing s (R .bytes) (R .isAccepted) .0 .inRange .functions)) f args depth budget in
-        let p : a .steps ≡ Bench.runOf s f args depth budget .steps = ap (λ (t : Bench.Told). t .result .steps) (bench-said .1) in
-        let q = ap (λ (t : Bench.Told). t .extras) (bench-said .1) in
-        omega (arith, l, q)
+        subst (λ (t : Bench.Told). t .result .steps + t .extras < 9223372036854775807) (sym (bench-said .1))
+        (few-steps s (R .bytes) (R .isAccepted) f args depth budget h)
 
     module _ {m : ℕ} (em : m ≡ oneMoreIfDeep (stoppedAs (a .stopped))) where
       pub more-small : m ≤ 1

@@ -1,7 +1,7 @@
 -- Demands 1 and 3 over files. Demand 1: each step of every accepted file of either kind has a next step or a named end. Demand 3: for every
 -- accepted procedure file whose translation fits, the translation is an accepted translated file, the run of the code that this file is
--- agrees with the bench's run of the program that the procedure file is, and so do the answers of the two machines. Whoever doubts the
--- price list reads this file and `Agree` in the Statement of crate `semantics`; Theorem.antt proves it.
+-- agrees with the bench's run of the program that the procedure file is, and so do the answers of the two machines and what they are
+-- charged. Whoever doubts the price list reads this file and `Agree` in the Statement of crate `semantics`; Theorem.antt proves it.
 -- f is the start function, 0 for main; on the controller it is that entry's number.
 use Prim.Native.Nat.{ℕ, _+_, _*_, _≤_, _<_}
 use mathlib.Core.Path.{_≡_}
@@ -10,7 +10,7 @@ use mathlib.Core.List.{List}
 use lib.IntN.{ℤ}
 use lib.ListN.{length}
 use Rattle.semantics.specs.Program.{FunctionNumber, functionOf}
-use Rattle.semantics.specs.Run.{deep, IsBroken, Result, oneMoreIfDeep, spentIfDeep}
+use Rattle.semantics.specs.Run.{End, ended, deep, IsBroken, Result, oneMoreIfDeep, spentIfDeep}
 use Rattle.semantics.specs.Bench.{waiting, bench}
 use Rattle.semantics.specs.WellFormed.{WellFormedState}
 use Rattle.semantics.specs.Controller.{Control, inUse, controller, targetOf}
@@ -29,6 +29,7 @@ use Rattle.translator.specs.Translated.{translationOf}
 use Rattle.runs.specs.Tells.{Tells, refuses, tells}
 use Rattle.bench.specs.Published as Bench
 use Rattle.controller.specs.Published as Controller
+use Rattle.charge.specs.Charge.{cents, charge, withExtras}
 
 -- ── Demand 1 ────────────────────────────────────────────────────────────────────────────────────
 
@@ -84,6 +85,12 @@ pub record AnswersAgree (s : List ℕ) (f : FunctionNumber) (args : List ℤ) (d
   -- .. and with one step more for each, one answers deep exactly when the other does.
   pub sameDeep : AnswersDeep (λ t. t .result) (Bench.benchTells s f args depth (told .result .steps + 1) frames)
       ↔ AnswersDeep (λ r. r) (Controller.controllerTells (translationOf s) (entryOf s f) args depth (told .result .steps + told .extras + 1) records)
+  -- Document 02, Slip 1: "the charge from bench steps and extras must equal the charge from the controller's own count" ..
+  pub sameCharge : charge (Controller.controllerTells (translationOf s) (entryOf s f) args depth (controllerBudget told) records)
+      ≡ charge (withExtras (Bench.benchTells s f args depth budget frames))
+  -- .. and is not refused where the runs ended, the bench's budget being one of 32 bits.
+  pub inCents : budget < 4294967296 → (e : End) → told .result .stop ≡ ended e
+      → charge (withExtras (Bench.benchTells s f args depth budget frames)) ≡ tells (cents (told .result .steps + told .extras))
 
 -- What is claimed of an accepted procedure file s, for a start function, arguments of the right number and a depth limit.
 pub record Claim (s : List ℕ) (f : FunctionNumber) (args : List ℤ) (depth : ℕ) : Type 0 where

@@ -1,5 +1,6 @@
 -- Demand 3 over files, proved: from the theorem of the rules and what the two file crates promise.
-use Prim.Native.Nat.{ℕ, _+_, _*_, _≤_, _<_}
+use Prim.Native.Nat.{ℕ, zero, suc, _+_, _*_, _≤_, _<_}
+use native.Mathlib.Omega.{arith}
 use mathlib.Core.Path.{_≡_, refl, sym, ap, _∙_, subst}
 use mathlib.Core.List.{List, [], _∷_}
 use lib.IntN.{ℤ}
@@ -18,10 +19,11 @@ use Rattle.semantics.specs.ListLaws.{at-below, getD-at}
 use Rattle.semantics.specs.TranslationLaws.{entry-at}
 use Rattle.semantics.specs.Theorem.{demand3, bench-is-sound}
 use Rattle.semantics.specs.SlotStateLaws.{controller-is-sound}
-use Rattle.semantics.specs.StopLaws.{Together, together, Exactly, exactly, bench-again, controller-left}
+use Rattle.semantics.specs.StopLaws.{bench-bound, extras-bound, Together, together, Exactly, exactly, bench-again, controller-left}
 use Rattle.parsing.specs.Parser.{Verdict, accepted, refused}
+use Rattle.parsing.specs.Bytes.{Bytes}
 use Rattle.memory.specs.CallLaws.{call-fits}
-use Rattle.runs.specs.Tells.{tells, tellsBy, toldOf}
+use Rattle.runs.specs.Tells.{Tells, tells, tellsBy, toldOf}
 use Rattle.procedure_names.specs.Writing.{ValuesFit, FunctionInRange}
 use Rattle.procedure_file.specs.Check as Procedure
 use Rattle.procedure_file.specs.Accepted.{HasFile}
@@ -35,6 +37,8 @@ use Rattle.bench.specs.Published.{benchVerdict, benchTells}
 use Rattle.bench.specs.Published as Bench
 use Rattle.controller.specs.Published.{controllerVerdict, controllerTells}
 use Rattle.controller.specs.Published as Controller
+use Rattle.charge.specs.Charge.{charge, withExtras}
+use Rattle.charge.specs.ChargeLaws.{ended-charged}
 use Rattle.agreement.specs.Statement.{NeverBroken, FilesMove, entryOf, translationRun, controllerBudget, AnswersAgree, Claim, FilesAgree}
 
 -- The ranges of a procedure, as the crate of translated files has them.
@@ -89,6 +93,19 @@ told-more (spent s) = refl
 told-more (deep s) = refl
 told-more (broken s) = refl
 
+locals-bound : (P : Program) → All FunctionInRange P → (g : ℕ) → functionOf P g .locals ≤ 24
+locals-bound [] a g = omega arith
+locals-bound (F ∷ Fs) a zero = a .0 .locals
+locals-bound (F ∷ Fs) a (suc g) = locals-bound Fs (a .1) g
+
+-- Bench steps and extras together, for a budget of 32 bits.
+pub few-steps : (s : List ℕ) → Bytes s → Procedure.checkOf s ≡ accepted → (f : FunctionNumber) (args : List ℤ) (depth budget : ℕ) → budget < 4294967296
+    → bench (Procedure.programOf s) f args depth budget .steps + extras (Procedure.programOf s) f args depth budget < 9223372036854775807
+few-steps s bytes ok f args depth budget h =
+    let k = bench-bound (Procedure.programOf s) f args depth budget in
+    let l = extras-bound (Procedure.programOf s) 24 (locals-bound (Procedure.programOf s) (is-writing s bytes ok .0 .inRange .functions)) f args depth budget in
+    omega (arith, k, l)
+
 -- ── From the rules to the answers ───────────────────────────────────────────────────────────────
 
 module _ (s : List ℕ) (f : FunctionNumber) (args : List ℤ) (depth : ℕ) (ok : Procedure.checkOf s ≡ accepted) (la : length args ≡ functionOf (Procedure.programOf s) f .params)
@@ -123,21 +140,33 @@ module _ (s : List ℕ) (f : FunctionNumber) (args : List ℤ) (depth : ℕ) (ok
     pub stops-match : StopsMatch P (b .stop) (translationRun s f args depth (controllerBudget (Bench.runTells s f args depth budget)) .stop)
     stops-match = rw budget-is (runs-together budget .stops)
 
-    answers-agree : depth ≤ 256 → (frames records : ℕ) → 48 * depth ≤ frames → 48 * depth ≤ records → AnswersAgree s f args depth budget frames records
-    answers-agree depthBound frames records lf lr =
+    answers-agree : Bytes s → depth ≤ 256 → (frames records : ℕ) → 48 * depth ≤ frames → 48 * depth ≤ records → AnswersAgree s f args depth budget frames records
+    answers-agree bytes depthBound frames records lf lr =
         record {
           told = Bench.runTells s f args depth budget;
-          benchTold = bench-tells s f args depth frames ok la depthBound lf budget;
-          controllerTold = answers (controllerBudget (Bench.runTells s f args depth budget)) ∙ ap tells ran-alike;
+          benchTold = bench-told;
+          controllerTold = controller-told;
           exactly = answers (b .steps + x) ∙ rw (runs-exactly budget .stop, runs-exactly budget .steps) refl;
           sameDeep = rw (bench-tells s f args depth frames ok la depthBound lf (b .steps + 1), answers (b .steps + x + 1)) (runs-exactly budget .sameDeep);
+          sameCharge = ap charge (controller-told ∙ sym (ap withExtras bench-told));
+          inCents = λ small e q. ap (λ (t : Tells Bench.Told). charge (withExtras t)) bench-told ∙ ended-charged (told (b .stop)) (b .steps + x) e q (few small);
         }
       where
         answers : (n : ℕ) → controllerTells (translationOf s) (entryOf s f) args depth n records ≡ tells (toldOf (translationRun s f args depth n))
         answers = controller-tells (translationOf s) (entryOf s f) args depth records accepts lt depthBound lr
 
-  claimed : Claim s f args depth
-  claimed =
+        bench-told : benchTells s f args depth budget frames ≡ tells (Bench.runTells s f args depth budget)
+        bench-told = bench-tells s f args depth frames ok la depthBound lf budget
+
+        controller-told : controllerTells (translationOf s) (entryOf s f) args depth (controllerBudget (Bench.runTells s f args depth budget)) records
+            ≡ tells (record { stop = told (b .stop); steps = b .steps + x })
+        controller-told = answers (controllerBudget (Bench.runTells s f args depth budget)) ∙ ap tells ran-alike
+
+        few : budget < 4294967296 → b .steps + x ≤ 18446744073709551615
+        few small = let l = few-steps s bytes ok f args depth budget small in omega (arith, l)
+
+  claimed : Bytes s → Claim s f args depth
+  claimed bytes =
       record {
         isAccepted = accepts;
         entry = there;
@@ -145,7 +174,7 @@ module _ (s : List ℕ) (f : FunctionNumber) (args : List ℤ) (depth : ℕ) (ok
         benchMoves = benchMoves;
         controllerMoves = controllerMoves;
         agree = agree;
-        answers = λ d n. answers-agree n d;
+        answers = λ d n. answers-agree n bytes d;
       }
 
 pub files-agree : FilesAgree
@@ -156,6 +185,7 @@ files-agree s bytes ok fits f below args la depth =
     (bench-is-sound P (h .wellFormed) f below args la depth)
     (subst (λ (Q : Code). Sound (StateKeeps Q 36) inUse depth (controller Q g args depth)) (sym back) (controller-is-sound 36 (translate P) (translation-rules P S) g there args (la ∙ sym (ap (λ (D : Target). D .params) entry-is)) depth))
     (subst (λ (Q : Code). Agree P (bench P f args depth) (extras P f args depth) (controller Q g args depth)) (sym back) (demand3 P (h .wellFormed) f below args la depth))
+    bytes
   where
     P : Program
     P = Procedure.programOf s

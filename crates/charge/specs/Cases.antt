@@ -20,5 +20,4 @@ table =
     ∷ []
 
 pub cases : All (λ r. cents (r .steps) ≡ r .costs) table
-unfolding cents
 cases = (refl, (refl, (refl, (refl, tt))))

@@ -1,13 +1,18 @@
 -- The charge of what an answer tells, as the code has it.
-use Prim.Native.Nat.{ℕ, _+_, _<_}
+use Prim.Native.Nat.{ℕ, _+_, _≤_, _<_}
 use mathlib.Core.Path.{_≡_, refl}
 use lib.Dec.{leb}
-use borrow.Author.Tests.{lt-leb}
-use Rattle.semantics.specs.Run.{Stop, ended, spent, deep, broken}
+use borrow.Author.Tests.{le-leb, lt-leb}
+use Rattle.semantics.specs.Run.{End, Stop, ended, spent, deep, broken}
 use Rattle.parsing.specs.Parser.{Verdict, accepted, refused}
-use Rattle.runs.specs.Tells.{refuses, tellsBy}
+use Rattle.runs.specs.Tells.{refuses, tells, tellsBy}
 use Rattle.bench.specs.Published.{Told}
-use Rattle.charge.specs.Charge.{maxSteps, charge, withExtras}
+use Rattle.charge.specs.Charge.{cents, maxSteps, charge, withExtras}
+
+-- An ended run whose steps do not pass 64 bits is charged.
+pub ended-charged : (stop : Stop (Unit {0})) (n : ℕ) (e : End) → stop ≡ ended e → n ≤ maxSteps → charge (tells (record { stop = stop; steps = n })) ≡ tells (cents n)
+unfolding charge
+ended-charged stop n e q h = rw (q, le-leb n maxSteps h)
 
 -- Steps that pass 64 bits have no charge, however the run stopped.
 pub past-uncharged : (v : Verdict) (stop : Stop (Unit {0})) (n : ℕ) → maxSteps < n → charge (tellsBy v (record { stop = stop; steps = n })) ≡ refuses 18 0

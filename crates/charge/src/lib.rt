@@ -6,9 +6,9 @@ use runs::Stopped;
 ghost use Prim.Native.Nat.{min};
 ghost use mathlib.Core.Path.{_≡_};
 ghost use Rattle.parsing.specs.Refusals.{noCharge};
-ghost use Rattle.parsing.specs.Parser.{refusal, verdictOf};
+ghost use Rattle.parsing.specs.Parser.{verdictOf};
 ghost use Rattle.runs.specs.Stopped.{stoppedAs};
-ghost use Rattle.runs.specs.Tells.{tellsBy};
+ghost use Rattle.runs.specs.Tells.{refuses, tellsBy};
 ghost use Rattle.bench.specs.Published as Bench;
 ghost use Rattle.controller.specs.Published as Controller;
 ghost use Rattle.charge.specs.Charge.{startedAbove, cents, charge, withExtras, chargeAs};
@@ -51,13 +51,13 @@ fn cents_of(steps: u64) -> u64
 }
 
 // 18 at 0.
-fn no_charge() -> Refusal
-    ensures { λ r. ⌜ r ≡ refusal noCharge 0 ⌝ }
+fn no_charge() -> Charge
+    ensures { λ r. ⌜ chargeAs r ≡ refuses noCharge 0 ⌝ }
 {
-    Refusal {
+    Charge::Refused(Refusal {
         number: refusals::NO_CHARGE,
         place: 0,
-    }
+    })
 }
 
 // The charge of a call's run that stopped so, with so many controller steps.
@@ -65,13 +65,13 @@ fn charge_of(verdict: Checked, stopped: Stopped, steps: u64) -> Charge
     ensures { λ r. ⌜ chargeAs r ≡ charge (tellsBy (verdictOf verdict) (record { stop = stoppedAs stopped; steps = steps })) ⌝ }
 {
     let none = no_charge();
-    let price = cents_of(steps);
+    let price = Charge::Cents(cents_of(steps));
     match verdict {
-        Checked::Refused(_) => Charge::Refused(none),
+        Checked::Refused(_) => none,
         Checked::Accepted => match stopped {
-            Stopped::Ended(_) => Charge::Cents(price),
-            Stopped::Spent => Charge::Refused(none),
-            Stopped::Deep => Charge::Refused(none),
+            Stopped::Ended(_) => price,
+            Stopped::Spent => none,
+            Stopped::Deep => none,
         },
     }
 }
@@ -85,7 +85,7 @@ pub fn bench_charge(a: bench::machine::Answer) -> Charge
     let steps = a.steps;
     let extras = a.extras;
     if MAX_STEPS - steps < extras {
-        return Charge::Refused(no_charge());
+        return no_charge();
     }
     let sum = steps + extras;
     charge_of(verdict, stopped, sum)

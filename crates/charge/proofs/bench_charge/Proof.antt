@@ -1,18 +1,15 @@
 -- `charge::bench_charge` meets its contract.
 use Prim.Native.Nat.{_+_, _<_}
 use native.Mathlib.Omega.{arith}
+use mathlib.Core.Path.{sym, ap, _∙_}
+use borrow.Author.Needs.{needs}
 use Rattle.parsing.specs.Parser.{verdictOf}
 use Rattle.runs.specs.Stopped.{stoppedAs}
 use Rattle.bench.specs.Published.{saidBy}
-use Rattle.charge.specs.Charge.{maxSteps}
+use Rattle.charge.specs.Charge.{maxSteps, charge}
 use Rattle.charge.specs.ChargeLaws.{past-uncharged, extras-added}
-use borrow.Author.Needs.{needs}
 use Rattle.charge.proofs.bench_charge.Statement.{statement}
 use Rattle.charge.proofs.bench_charge.Tie as tie
-use Rattle.charge.proofs.bench_charge.Reads as reads
-use Rattle.charge.proofs.bench_charge.Lts as lts
-use Rattle.charge.proofs.charge_of.Reads as charge-of-reads
-use Rattle.charge.proofs.no_charge.Reads as no-charge-reads
 
 sub-if1 : tie.Need-sub-if1
 sub-if1 c = search needs
@@ -23,8 +20,10 @@ no-charge-requires c κs = search needs
 returns : tie.Need-returns
 returns c =
     let a = c .before .before .args .a in
-    let sum : maxSteps < a .steps + a .extras = omega arith in
-    rw (extras-added (verdictOf (a .verdict)) (saidBy a), past-uncharged (verdictOf (a .verdict)) (stoppedAs (a .stopped)) (a .steps + a .extras) sum, c .no-charge .ensures)
+    let past : maxSteps < a .steps + a .extras = omega arith in
+    c .no-charge .ensures
+    ∙ sym
+    (ap charge (extras-added (verdictOf (a .verdict)) (saidBy a)) ∙ past-uncharged (verdictOf (a .verdict)) (stoppedAs (a .stopped)) (a .steps + a .extras) past)
 
 add-sum : tie.Need-add-sum
 add-sum c = search needs
@@ -35,7 +34,7 @@ charge-of-requires c κs = search needs
 returns-2 : tie.Need-returns-2
 returns-2 c =
     let a = c .before .before .args .a in
-    rw (extras-added (verdictOf (a .verdict)) (saidBy a)) (c .charge-of .ensures)
+    c .charge-of .ensures ∙ sym (ap charge (extras-added (verdictOf (a .verdict)) (saidBy a)))
 
 pub bench-charge-spec : {M : Type 1} → statement M
 bench-charge-spec =

@@ -1,14 +1,13 @@
 -- `charge::charge_of` meets its contract.
 use native.Mathlib.Omega.{arith}
-use borrow.Author.Tests.{le-leb}
-use Rattle.charge.specs.Charge.{maxSteps, charge}
+use mathlib.Core.Path.{sym, ap, _∙_}
 use borrow.Author.Needs.{needs}
+use Rattle.runs.specs.Stopped.{stoppedAs}
+use Rattle.runs.specs.Tells.{tells}
+use Rattle.charge.specs.Charge.{charge}
+use Rattle.charge.specs.ChargeLaws.{ended-charged}
 use Rattle.charge.proofs.charge_of.Statement.{statement}
 use Rattle.charge.proofs.charge_of.Tie as tie
-use Rattle.charge.proofs.charge_of.Reads as reads
-use Rattle.charge.proofs.charge_of.Lts as lts
-use Rattle.charge.proofs.cents_of.Reads as cents-of-reads
-use Rattle.charge.proofs.no_charge.Reads as no-charge-reads
 
 no-charge-requires : tie.Need-no-charge-requires
 no-charge-requires c κs = search needs
@@ -34,30 +33,30 @@ enum-told-5 c = search needs
 returns : tie.Need-returns
 unfolding charge
 returns c =
-    let at-cents = c .before .before in
-    rw (c .enum-told .given .1, at-cents .before .no-charge .ensures)
+    let at-none = c .before .before .before in
+    rw (c .enum-told .given .1) (at-none .no-charge .ensures)
 
 returns-2 : tie.Need-returns-2
-unfolding charge
 returns-2 c =
-    let at-verdict = c .before .before in
-    let at-cents = at-verdict .before .before in
-    let entry = at-cents .before .before in
-    rw (at-verdict .enum-told2 .given .1, c .enum-told3 .given .1, le-leb (entry .args .steps) maxSteps (omega arith), at-cents .cents-of .ensures)
+    let at-accepted = c .before .before in
+    let at-price = at-accepted .before .before in
+    let entry = at-price .before .before in
+    rw (at-accepted .enum-told2 .given .1)
+    (ap tells (at-price .cents-of .ensures) ∙ sym (ended-charged _ (entry .args .steps) _ (ap stoppedAs (c .enum-told3 .given .1)) (omega arith)))
 
 returns-3 : tie.Need-returns-3
 unfolding charge
 returns-3 c =
-    let at-verdict = c .before .before in
-    let at-cents = at-verdict .before .before in
-    rw (at-verdict .enum-told2 .given .1, c .enum-told4 .given .1, at-cents .before .no-charge .ensures)
+    let at-accepted = c .before .before in
+    let at-none = at-accepted .before .before .before in
+    rw (at-accepted .enum-told2 .given .1, c .enum-told4 .given .1) (at-none .no-charge .ensures)
 
 returns-4 : tie.Need-returns-4
 unfolding charge
 returns-4 c =
-    let at-verdict = c .before .before in
-    let at-cents = at-verdict .before .before in
-    rw (at-verdict .enum-told2 .given .1, c .enum-told5 .given .1, at-cents .before .no-charge .ensures)
+    let at-accepted = c .before .before in
+    let at-none = at-accepted .before .before .before in
+    rw (at-accepted .enum-told2 .given .1, c .enum-told5 .given .1) (at-none .no-charge .ensures)
 
 pub charge-of-spec : {M : Type 1} → statement M
 charge-of-spec =
