@@ -85,10 +85,11 @@ pub record AnswersAgree (s : List ℕ) (f : FunctionNumber) (args : List ℤ) (d
   -- .. and with one step more for each, one answers deep exactly when the other does.
   pub sameDeep : AnswersDeep (λ t. t .result) (Bench.benchTells s f args depth (told .result .steps + 1) frames)
       ↔ AnswersDeep (λ r. r) (Controller.controllerTells (translationOf s) (entryOf s f) args depth (told .result .steps + told .extras + 1) records)
-  -- Document 02, Slip 1: "the charge from bench steps and extras must equal the charge from the controller's own count" ..
+  -- Document 02, Slip 1: "Where demand 3 pairs two ended runs, the charge from bench steps and extras must equal the charge from the
+  -- controller's own count". (Where they did not end, both are refused.)
   pub sameCharge : charge (Controller.controllerTells (translationOf s) (entryOf s f) args depth (controllerBudget told) records)
       ≡ charge (withExtras (Bench.benchTells s f args depth budget frames))
-  -- .. and is not refused where the runs ended, the bench's budget being one of 32 bits.
+  -- Where they ended it is in cents, and not refused, for every budget that a call of the bench takes.
   pub inCents : budget < 4294967296 → (e : End) → told .result .stop ≡ ended e
       → charge (withExtras (Bench.benchTells s f args depth budget frames)) ≡ tells (cents (told .result .steps + told .extras))
 

@@ -1,7 +1,6 @@
 -- The charge of what an answer tells, as the code has it.
 use Prim.Native.Nat.{ℕ, _+_, _≤_, _<_}
 use mathlib.Core.Path.{_≡_, refl}
-use lib.Dec.{leb}
 use borrow.Author.Tests.{le-leb, lt-leb}
 use Rattle.semantics.specs.Run.{End, Stop, ended, spent, deep, broken}
 use Rattle.parsing.specs.Parser.{Verdict, accepted, refused}
