@@ -29,7 +29,8 @@ use Rattle.translator.specs.Translated.{translationOf}
 use Rattle.runs.specs.Tells.{Tells, refuses, tells}
 use Rattle.bench.specs.Published as Bench
 use Rattle.controller.specs.Published as Controller
-use Rattle.charge.specs.Charge.{cents, charge, withExtras}
+use Rattle.prices.specs.Cents.{cents}
+use Rattle.charge.specs.Charge.{charge, withExtras}
 
 -- ── Demand 1 ────────────────────────────────────────────────────────────────────────────────────
 

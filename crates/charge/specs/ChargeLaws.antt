@@ -6,7 +6,8 @@ use Rattle.semantics.specs.Run.{End, Stop, ended, spent, deep, broken}
 use Rattle.parsing.specs.Parser.{Verdict, accepted, refused}
 use Rattle.runs.specs.Tells.{refuses, tells, tellsBy}
 use Rattle.bench.specs.Published.{Told}
-use Rattle.charge.specs.Charge.{cents, maxSteps, charge, withExtras}
+use Rattle.prices.specs.Cents.{cents}
+use Rattle.charge.specs.Charge.{maxSteps, charge, withExtras}
 
 -- An ended run whose steps do not pass 64 bits is charged.
 pub ended-charged : (stop : Stop (Unit {0})) (n : ℕ) (e : End) → stop ≡ ended e → n ≤ maxSteps → charge (tells (record { stop = stop; steps = n })) ≡ tells (cents n)

@@ -1,5 +1,4 @@
--- The charge of a run, in cents (document 02, Slip 1). Definitions: Charge; Cases has the four examples, with their theorem.
+-- The charge of a run's answer (document 02, Slip 1). Definitions: Charge.
 pub mod Charge
-pub mod Cases
 -- Laws.
 pub mod ChargeLaws

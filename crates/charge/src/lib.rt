@@ -1,9 +1,9 @@
-// The charge of a run, in cents, from the answer of either machine (document 02, Slip 1).
+// The charge of a run, in cents, asked of the answer of either machine (document 02, Slip 1).
 use parsing::Checked;
 use parsing::Refusal;
 use parsing::refusals;
+use prices::cents_of;
 use runs::Stopped;
-ghost use Prim.Native.Nat.{min};
 ghost use mathlib.Core.Path.{_≡_};
 ghost use Rattle.parsing.specs.Refusals.{noCharge};
 ghost use Rattle.parsing.specs.Parser.{verdictOf};
@@ -11,7 +11,7 @@ ghost use Rattle.runs.specs.Stopped.{stoppedAs};
 ghost use Rattle.runs.specs.Tells.{refuses, tellsBy};
 ghost use Rattle.bench.specs.Published as Bench;
 ghost use Rattle.controller.specs.Published as Controller;
-ghost use Rattle.charge.specs.Charge.{startedAbove, cents, charge, withExtras, chargeAs};
+ghost use Rattle.charge.specs.Charge.{charge, withExtras, chargeAs};
 
 // The largest number of 64 bits.
 const MAX_STEPS: u64 = 18446744073709551615;
@@ -20,34 +20,6 @@ const MAX_STEPS: u64 = 18446744073709551615;
 pub enum Charge {
     Cents(u64),
     Refused(Refusal),
-}
-
-// The less of two numbers.
-fn least(a: u64, b: u64) -> u64
-    ensures { λ r. ⌜ r ≡ min a b ⌝ }
-{
-    if a < b { a } else { b }
-}
-
-// The thousands that so many steps have started above a border.
-fn started_above(border: u64, steps: u64) -> u64
-    ensures { λ r. ⌜ r ≡ startedAbove border steps ⌝ }
-{
-    if steps <= border {
-        return 0;
-    }
-    let more = steps - border;
-    (more - 1) / 1000 + 1
-}
-
-// "A procedure costs 250 cents. Each started thousand steps above 5,000 adds 3 cents, and each started thousand above 100,000 adds 2 in
-// place of 3."
-fn cents_of(steps: u64) -> u64
-    ensures { λ r. ⌜ r ≡ cents steps ⌝ }
-{
-    let near = started_above(5000, least(steps, 100000));
-    let far = started_above(100000, steps);
-    250 + 3 * near + 2 * far
 }
 
 // 18 at 0.

@@ -3,7 +3,7 @@ use Prim.Native.Nat.{ℕ}
 use mathlib.Core.Path.{_≡_, refl}
 use mathlib.Core.List.{List, [], _∷_}
 use Rattle.semantics.specs.WellFormed.{All}
-use Rattle.charge.specs.Charge.{cents}
+use Rattle.prices.specs.Cents.{cents}
 
 -- Steps, and what they cost.
 pub record Row : Type 0 where
