@@ -99,15 +99,15 @@ module _ {s : List ℕ} (F : FileInvariant s) {limit b : ℕ} {r₀ : Regs} {vs�
           sameLength = D .sameLength ∙ T .sameLength;
         }
 
-    pub turn-ended : {e : End} {vs′ words′ : List ℤ} → StepResult s limit r vs words (Ended e) vs′ words′
-        → RunResult s limit b r₀ vs₀ words₀ (record { stopped = Stopped.Ended e; steps = n + 1; regs = zeroRegs (r .extras) }) (replicate 32 (pos 0)) words′
-    turn-ended {e} {vs′} {words′} D =
+    pub turn-ended : {e : End} {k : ℕ} {vs′ words′ : List ℤ} → StepResult s limit r vs words (Ended e k) vs′ words′
+        → RunResult s limit b r₀ vs₀ words₀ (record { stopped = Stopped.Ended e; steps = n + 1; regs = zeroRegs k }) (replicate 32 (pos 0)) words′
+    turn-ended {e} {k} {vs′} {words′} D =
         let q : run (step (programOf s) limit) b (stateOf s r₀ vs₀ words₀) ≡ record { stop = ended (endAs e); steps = n + 1 } =
         T .left ∙ ap (λ (y : Result State). after n y) (run-is (end (endAs e)) (sym (D .outcome))) in
         record {
           tells = ap toldOf q;
-          state = subst (λ (y : Result State). StoppedAt s limit (zeroRegs (r .extras)) (replicate 32 (pos 0)) words′ (y .stop)) (sym q) (refl, refl);
-          extras = T .sum ∙ (ap (λ (k : ℕ). r .extras + k) (total-is (end (endAs e)) (sym (D .outcome)) ∙ D .held) ∙ add-zero (r .extras));
+          state = subst (λ (y : Result State). StoppedAt s limit (zeroRegs k) (replicate 32 (pos 0)) words′ (y .stop)) (sym q) (refl, refl);
+          extras = T .sum ∙ (ap (λ (x : ℕ). r .extras + x) (total-is (end (endAs e)) (sym (D .outcome))) ∙ sym (D .held));
           kept = D .kept ∙ T .kept;
           sameLength = D .sameLength ∙ T .sameLength;
         }
@@ -134,7 +134,7 @@ module _ {s : List ℕ} (F : FileInvariant s) {limit b : ℕ} {r₀ : Regs} {vs�
     pub on-next : {q : Regs} → x ≡ Next q → Turn s limit b r₀ vs₀ words₀ (n + 1) q vs′ words′
     on-next e = turn-next l (by e)
 
-    pub on-ended : {e : End} {q : Regs} → x ≡ Ended e → q ≡ zeroRegs (r .extras) → RunResult s limit b r₀ vs₀ words₀ (record { stopped = Stopped.Ended e; steps = n + 1; regs = q }) (replicate 32 (pos 0)) words′
+    pub on-ended : {e : End} {k : ℕ} {q : Regs} → x ≡ Ended e k → q ≡ zeroRegs k → RunResult s limit b r₀ vs₀ words₀ (record { stopped = Stopped.Ended e; steps = n + 1; regs = q }) (replicate 32 (pos 0)) words′
     on-ended {e} h z = subst (λ (q : Regs). RunResult s limit b r₀ vs₀ words₀ (record { stopped = Stopped.Ended e; steps = n + 1; regs = q }) (replicate 32 (pos 0)) words′) (sym z) (turn-ended l (by h))
 
     pub on-deep : x ≡ Deep → RunResult s limit b r₀ vs₀ words₀ (record { stopped = Stopped.Deep; steps = n; regs = r }) vs′ words′

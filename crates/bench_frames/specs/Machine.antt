@@ -67,13 +67,13 @@ pub record Invariant (s : List ℕ) (limit : ℕ) (r : Regs) (vs words : List �
 -- The outcome that a step's answer stands for.
 abbrev pub outcomeOf : List ℕ → Step → List ℤ → List ℤ → Outcome State
 outcomeOf s (Next r) vs words = next (stateOf s r vs words)
-outcomeOf s (Ended e) vs words = end (endAs e)
+outcomeOf s (Ended e k) vs words = end (endAs e)
 outcomeOf s Deep vs words = tooDeep
 
 -- What holds after a step.
 abbrev pub InvariantAfter : List ℕ → ℕ → Regs → List ℤ → List ℤ → Step → List ℤ → List ℤ → Type 0
 InvariantAfter s limit r vs words (Next q) vs′ words′ = Invariant s limit q vs′ words′ × (q .extras ≡ r .extras + extra (programOf s) (stateOf s r vs words))
-InvariantAfter s limit r vs words (Ended e) vs′ words′ = extra (programOf s) (stateOf s r vs words) ≡ 0
+InvariantAfter s limit r vs words (Ended e k) vs′ words′ = k ≡ r .extras + extra (programOf s) (stateOf s r vs words)
 InvariantAfter s limit r vs words Deep vs′ words′ = (vs′ ≡ vs) × (words′ ≡ words)
 
 -- One step of the machine is one step of the rules: the promise of every function that takes one.

@@ -10,9 +10,9 @@ pub struct Regs {
     pub extras: u64,
 }
 
-// What a step comes to.
+// What a step comes to; with an end, the extras of the whole run.
 pub enum Step {
     Next(Regs),
-    Ended(End),
+    Ended { end: End, extras: u64 },
     Deep,
 }

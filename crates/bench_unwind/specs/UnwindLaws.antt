@@ -161,8 +161,8 @@ module _ {s : List ℕ} (F : FileInvariant s) {limit : ℕ} {r : Regs} {vs words
   unfolding step
   returning e ey q = rw (q, ey) (stepped F H e ∙ given-some (λ (z : ℤ). returned z (framesOf s words (r .waiting))) (value-is F H (placed F H e .block)))
 
-  pub return-value : {x y n : ℕ} {v : ℤ} → operationAt s (r .at) ≡ Return x n → y ≡ x → v ≡ getD vs y (pos 0) → r .waiting ≡ 0 → StepResult s limit r vs words (Ended (Value v)) vs words
-  return-value {v = v} e ey q z = record { outcome = sym (returning e ey q ∙ ap (λ (d : ℕ). returned v (framesOf s words d)) z); held = extra-is F H e; kept = refl; sameLength = refl }
+  pub return-value : {x y n : ℕ} {v : ℤ} → operationAt s (r .at) ≡ Return x n → y ≡ x → v ≡ getD vs y (pos 0) → r .waiting ≡ 0 → StepResult s limit r vs words (Ended (Value v) (r .extras)) vs words
+  return-value {v = v} e ey q z = record { outcome = sym (returning e ey q ∙ ap (λ (d : ℕ). returned v (framesOf s words d)) z); held = no-extras F H (extra-is F H e); kept = refl; sameLength = refl }
 
   pub last-below : ¬ (r .waiting ≡ 0) → r .waiting - 1 < r .waiting
   last-below w = omega (arith, w)
@@ -208,10 +208,10 @@ module _ {s : List ℕ} (F : FileInvariant s) {limit : ℕ} {r : Regs} {vs words
   out-extra e z = extra-is F H e ∙ ap (λ (k : ℕ). caughtOutside k (framesOf s words (r .waiting))) z
 
   -- No frame has one.
-  pub raise-uncaught : {n k : ℕ} → operationAt s (r .at) ≡ Raise n → r .handler ≡ 0 → k ≡ newestGuarded (framesOf s words (r .waiting)) → k ≡ 0 → StepResult s limit r vs words (Ended Uncaught) vs words
+  pub raise-uncaught : {n k : ℕ} → operationAt s (r .at) ≡ Raise n → r .handler ≡ 0 → k ≡ newestGuarded (framesOf s words (r .waiting)) → k ≡ 0 → StepResult s limit r vs words (Ended Uncaught (r .extras)) vs words
   raise-uncaught e z g q =
       let u : Unwinds s words (r .waiting) 0 = subst (Unwinds s words (r .waiting)) (sym g ∙ q) (unwinds s words (r .waiting)) in
-      record { outcome = sym (out e z ∙ u .0); held = out-extra e z ∙ u .1; kept = refl; sameLength = refl }
+      record { outcome = sym (out e z ∙ u .0); held = no-extras F H (out-extra e z ∙ u .1); kept = refl; sameLength = refl }
 
   -- The newest frame that has one, the k-th oldest.
   module _ {k : ℕ} (g : k ≡ newestGuarded (framesOf s words (r .waiting))) (p : 0 < k) where

@@ -65,7 +65,10 @@ pub fn return_step(
     let v = vars[x];
     let w = r.waiting;
     if w == 0 {
-        return Step::Ended(End::Value(v));
+        return Step::Ended {
+            end: End::Value(v),
+            extras: r.extras,
+        };
     }
     let d = w - 1;
     let h = head_at(words, d);
@@ -150,7 +153,10 @@ pub fn raise_step(
     }
     let k = guarded(file, limit, r, vars, words);
     if k == 0 {
-        return Step::Ended(End::Uncaught);
+        return Step::Ended {
+            end: End::Uncaught,
+            extras: r.extras,
+        };
     }
     caught_step(file, starts, limit, r, vars, words, next, k)
 }
