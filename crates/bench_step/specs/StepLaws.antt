@@ -15,6 +15,8 @@ use Rattle.semantics.specs.Extras.{extra}
 use Rattle.procedure_operations.specs.declared.operation.Operation.{Operation}
 use Rattle.procedure_operations.specs.declared.operation.Operation.the-variants.{Constant, Copy, Difference, Goto, Branch}
 use Rattle.procedure_operations.specs.Operation.{operationAt}
+use Rattle.procedure_fields.specs.Number.{numberOf}
+use Rattle.procedure_fields.specs.NumberLaws.{raise-known}
 use Rattle.procedure_file.specs.Check.{programOf}
 use Rattle.procedure_layout.specs.Rest.{restAt}
 use Rattle.bench_frames.specs.declared.registers.Regs.{Regs}
@@ -22,6 +24,7 @@ use Rattle.bench_frames.specs.declared.registers.Step.the-variants.{Next}
 use Rattle.procedure_file.specs.FileInvariant.{FileInvariant, Stands}
 use Rattle.bench_frames.specs.Machine.{functionAt, varsOf, startRegs, framesOf, stateOf, Invariant, StepResult}
 use Rattle.bench_frames.specs.StateLaws.{before, stepped, extra-is, placed, there, on, moved}
+use Rattle.bench_unwind.specs.Raises.{Raises}
 use Rattle.bench_unwind.specs.EnterLaws.{value-is, no-extras, to-label}
 
 module _ {s : List ℕ} (F : FileInvariant s) {limit : ℕ} {r : Regs} {vs words : List ℤ} (H : Invariant s limit r vs words) where
@@ -42,7 +45,7 @@ module _ {s : List ℕ} (F : FileInvariant s) {limit : ℕ} {r : Regs} {vs words
   assigned {x = x} {n = n} {u = u} e ea ev eq lx st z m =
       rw (ea, ev, eq)
       (moved F H (stepped F H e ∙ (m ∙ ap (λ (us : List ℤ). next (state (r .function) (r .handler) (restAt s n) us now-frames)) (sym (take-set-lt (varsOf s (r .function)) vs x u lx))))
-      st (H .frames) (length-set vs x u ∙ H .variables) refl refl (no-extras F H (extra-is F H e ∙ z)))
+      st (H .frames) (length-set vs x u ∙ H .variables) refl refl (no-extras (extra-is F H e ∙ z)))
 
   abbrev value : ℕ → ℤ
   value y = getD vs y (pos 0)
@@ -70,7 +73,7 @@ module _ {s : List ℕ} (F : FileInvariant s) {limit : ℕ} {r : Regs} {vs words
 
   pub goto-done : {l n : ℕ} {q : Regs} → operationAt s (r .at) ≡ Goto l n → q ≡ startRegs s (r .function) l (r .waiting) (r .extras) → StepResult s limit r vs words (Next q) vs words
   unfolding step
-  goto-done e eq = to-label F H e (placed F H e .block) refl (no-extras F H refl) eq
+  goto-done e eq = to-label F H (placed F H e .block) (stepped F H e) (no-extras (extra-is F H e)) eq
 
   -- 7 branch
   pub record BranchSafe (l m : ℕ) : Type 0 where
@@ -91,4 +94,9 @@ module _ {s : List ℕ} (F : FileInvariant s) {limit : ℕ} {r : Regs} {vs words
   branch-done {y} {z} {c′ = c′} e ey ez ea eb ec et eq =
       let w = placed F H e .block in
       let k : atMost (value y) (value z) ≡ c′ = sym (ec ∙ ap₂ atMost (ea ∙ ap value ey) (eb ∙ ap value ez)) ∙ et in
-      to-label F H e (chosen c′ (w .2) (w .3)) (rw (value-is F H (w .0), value-is F H (w .1), k)) refl eq
+      to-label F H (chosen c′ (w .2) (w .3)) (stepped F H e ∙ rw (value-is F H (w .0), value-is F H (w .1), k)) (ap (λ (j : ℕ). r .extras + j) (sym (extra-is F H e))) eq
+
+  -- 8 raise
+  pub raise-raises : numberOf (operationAt s (r .at)) ≡ 8 → Raises s limit r vs words (r .extras)
+  unfolding step
+  raise-raises e = let o = raise-known (operationAt s (r .at)) e in record { outcome = stepped F H (o .1); counted = ap (λ (k : ℕ). r .extras + k) (extra-is F H (o .1)) }

@@ -14,8 +14,6 @@ use Rattle.semantics.specs.WellFormed.{IsLabel}
 use Rattle.semantics.specs.Extras.{extra}
 use Rattle.semantics.specs.ListLaws.{at-getD}
 use Rattle.semantics.specs.SlotLaws.{given-some}
-use Rattle.procedure_operations.specs.declared.operation.Operation.{Operation}
-use Rattle.procedure_operations.specs.Operation.{operationAt}
 use Rattle.procedure_file.specs.Check.{programOf}
 use Rattle.procedure_layout.specs.Rest.{restAt}
 use Rattle.procedure_file.specs.Places.{startOf, handlerOf}
@@ -23,7 +21,11 @@ use Rattle.procedure_file.specs.FileInvariant.{FileInvariant}
 use Rattle.bench_frames.specs.declared.registers.Regs.{Regs}
 use Rattle.bench_frames.specs.declared.registers.Step.the-variants.{Next}
 use Rattle.bench_frames.specs.Machine.{functionAt, varsOf, startRegs, framesOf, stateOf, Invariant, StepResult}
-use Rattle.bench_frames.specs.StateLaws.{before, stepped, extra-is, place, there, moved}
+use Rattle.bench_frames.specs.StateLaws.{place, there, moved}
+
+-- No extras are added.
+pub no-extras : {n k : ℕ} → k ≡ 0 → n ≡ n + k
+no-extras {n} z = sym (ap (λ (k : ℕ). n + k) z ∙ add-zero n)
 
 module _ {s : List ℕ} (F : FileInvariant s) where
   -- To a label of function f.
@@ -46,13 +48,9 @@ module _ {s : List ℕ} (F : FileInvariant s) where
         at-getD now-vars y (pos 0) (subst (λ (n : ℕ). y < n) (sym (place F H .variables)) h)
         ∙ ap (λ (z : ℤ). some z) (getD-take (varsOf s (r .function)) vs y (pos 0) h)
 
-    pub no-extras : {k : ℕ} → k ≡ 0 → r .extras ≡ r .extras + k
-    no-extras z = sym (ap (λ (k : ℕ). r .extras + k) z ∙ add-zero (r .extras))
-
     -- To a label of the running function, with k extras.
-    pub to-label : {o : Operation} {l k : ℕ} {q : Regs} → operationAt s (r .at) ≡ o → IsLabel (length (functionAt s (r .function) .blocks)) l → step (programOf s) limit (before F H o) ≡ enter (programOf s) (r .function) l now-vars now-frames
-        → k ≡ r .extras + extra (programOf s) (before F H o) → q ≡ startRegs s (r .function) l (r .waiting) k → StepResult s limit r vs words (Next q) vs words
+    pub to-label : {l k : ℕ} {q : Regs} → IsLabel (length (functionAt s (r .function) .blocks)) l → step (programOf s) limit (stateOf s r vs words) ≡ enter (programOf s) (r .function) l now-vars now-frames
+        → k ≡ r .extras + extra (programOf s) (stateOf s r vs words) → q ≡ startRegs s (r .function) l (r .waiting) k → StepResult s limit r vs words (Next q) vs words
     unfolding stateOf
-    to-label {l = l} e il m x eq =
-        rw eq (moved F H (stepped F H e ∙ (m ∙ enters (there F H) il now-vars now-frames)) (F .start (r .function) l (there F H) (il .1)) (H .frames) (H .variables) refl refl
-        (x ∙ ap (λ (k : ℕ). r .extras + k) (sym (extra-is F H e))))
+    to-label {l = l} il m x eq =
+        rw eq (moved F H (m ∙ enters (there F H) il now-vars now-frames) (F .start (r .function) l (there F H) (il .1)) (H .frames) (H .variables) refl refl x)

@@ -1,4 +1,4 @@
--- The operations that read waiting frames: return and raise. One law a way, as the code has it.
+-- What reads waiting frames: return, and a step that raises. One law a way, as the code has it.
 use Prim.Native.Nat.{ℕ, zero, suc, _+_, _*_, _-_, _≤_, _<_}
 use native.Mathlib.Omega.{arith}
 use native.Mathlib.Decide.{ℕ-discrete}
@@ -19,7 +19,7 @@ use Rattle.memory.specs.Lay.{lay}
 use Rattle.memory.specs.Frame.{frameAt, headOf, HeadFits, valuesOf}
 use Rattle.memory.specs.LayLaws.{length-lay, length-part}
 use Rattle.memory.specs.FrameLaws.{frame-values}
-use Rattle.procedure_operations.specs.declared.operation.Operation.the-variants.{Return, Raise}
+use Rattle.procedure_operations.specs.declared.operation.Operation.the-variants.{Return}
 use Rattle.procedure_operations.specs.Operation.{operationAt}
 use Rattle.procedure_file.specs.Check.{programOf}
 use Rattle.procedure_layout.specs.Rest.{restAt}
@@ -28,7 +28,8 @@ use Rattle.bench_frames.specs.declared.registers.Step.the-variants.{Next, Ended
 use Rattle.runs.specs.declared.End.the-variants.{Value, Uncaught}
 use Rattle.procedure_file.specs.FileInvariant.{FileInvariant, Stands}
 use Rattle.bench_frames.specs.Machine.{functionAt, varsOf, startRegs, frameOf, framesOf, stateOf, Invariant, StepResult}
-use Rattle.bench_frames.specs.StateLaws.{length-frames, front, frameWith, vars-bound, stepped, extra-is, placed, there, moved}
+use Rattle.bench_frames.specs.StateLaws.{length-frames, front, frameWith, vars-bound, stepped, extra-is, place, placed, there, moved}
+use Rattle.bench_unwind.specs.Raises.{Raises}
 use Rattle.bench_unwind.specs.EnterLaws.{enters, value-is, no-extras, to-label}
 
 -- A waiting frame is well-formed.
@@ -162,7 +163,7 @@ module _ {s : List ℕ} (F : FileInvariant s) {limit : ℕ} {r : Regs} {vs words
   returning e ey q = rw (q, ey) (stepped F H e ∙ given-some (λ (z : ℤ). returned z (framesOf s words (r .waiting))) (value-is F H (placed F H e .block)))
 
   pub return-value : {x y n : ℕ} {v : ℤ} → operationAt s (r .at) ≡ Return x n → y ≡ x → v ≡ getD vs y (pos 0) → r .waiting ≡ 0 → StepResult s limit r vs words (Ended (Value v) (r .extras)) vs words
-  return-value {v = v} e ey q z = record { outcome = sym (returning e ey q ∙ ap (λ (d : ℕ). returned v (framesOf s words d)) z); held = no-extras F H (extra-is F H e); kept = refl; sameLength = refl }
+  return-value {v = v} e ey q z = record { outcome = sym (returning e ey q ∙ ap (λ (d : ℕ). returned v (framesOf s words d)) z); held = no-extras (extra-is F H e); kept = refl; sameLength = refl }
 
   pub last-below : ¬ (r .waiting ≡ 0) → r .waiting - 1 < r .waiting
   last-below w = omega (arith, w)
@@ -180,16 +181,14 @@ module _ {s : List ℕ} (F : FileInvariant s) {limit : ℕ} {r : Regs} {vs words
       ∙ (ap (λ (d : ℕ). returned v (framesOf s words d)) z
       ∙ (ap (λ (g : Frame). returned v (g ∷ framesOf s words (r .waiting - 1))) (frame-is l eh eu)
       ∙ ap (λ (ws : List ℤ). next (state (h .word0) (h .word1) (restAt s (h .word2)) ws (framesOf s words (r .waiting - 1)))) (sym (take-set-lt (varsOf s (h .word0)) us (h .word3) v (S .variable))))))
-      (S .stands) (λ i k. H .frames i (omega arith)) (length-set us (h .word3) v ∙ us-long l eh eu) refl refl (no-extras F H (extra-is F H e))
+      (S .stands) (λ i k. H .frames i (omega arith)) (length-set us (h .word3) v ∙ us-long l eh eu) refl refl (no-extras (extra-is F H e))
 
-  -- 8 raise
-  -- Under a handler.
-  pub here-safe : {n : ℕ} → operationAt s (r .at) ≡ Raise n → ¬ (r .handler ≡ 0) → (r .function < length (programOf s)) × IsLabel (length (functionAt s (r .function) .blocks)) (r .handler)
-  here-safe e z = (there F H, (omega (arith, z), placed F H e .handler))
+  -- A step that raises, under a handler.
+  pub here-safe : ¬ (r .handler ≡ 0) → (r .function < length (programOf s)) × IsLabel (length (functionAt s (r .function) .blocks)) (r .handler)
+  here-safe z = (there F H, (omega (arith, z), place F H .handler))
 
-  pub raise-here : {n : ℕ} {q : Regs} → operationAt s (r .at) ≡ Raise n → ¬ (r .handler ≡ 0) → q ≡ startRegs s (r .function) (r .handler) (r .waiting) (r .extras) → StepResult s limit r vs words (Next q) vs words
-  unfolding step
-  raise-here e z eq = to-label F H e (here-safe e z .1) (by-handler (r .handler) z) (no-extras F H (no-more (r .handler) z)) eq
+  pub raise-here : {x : ℕ} {q : Regs} → Raises s limit r vs words x → ¬ (r .handler ≡ 0) → q ≡ startRegs s (r .function) (r .handler) (r .waiting) x → StepResult s limit r vs words (Next q) vs words
+  raise-here R z eq = to-label F H (here-safe z .1) (R .outcome ∙ by-handler (r .handler) z) (no-extras (no-more (r .handler) z) ∙ sym (R .counted)) eq
     where
       by-handler : (k : ℕ) → ¬ (k ≡ 0) → raised (programOf s) (r .function) k (take (varsOf s (r .function)) vs) (framesOf s words (r .waiting)) ≡ enter (programOf s) (r .function) k (take (varsOf s (r .function)) vs) (framesOf s words (r .waiting))
       by-handler zero h = absurd (h refl)
@@ -200,18 +199,17 @@ module _ {s : List ℕ} (F : FileInvariant s) {limit : ℕ} {r : Regs} {vs words
       no-more (suc l) h = refl
 
   -- Without one.
-  out : {n : ℕ} → operationAt s (r .at) ≡ Raise n → r .handler ≡ 0 → step (programOf s) limit (stateOf s r vs words) ≡ unwound (programOf s) (framesOf s words (r .waiting))
-  unfolding step
-  out e z = stepped F H e ∙ ap (λ (k : ℕ). raised (programOf s) (r .function) k (take (varsOf s (r .function)) vs) (framesOf s words (r .waiting))) z
+  out : {x : ℕ} → Raises s limit r vs words x → r .handler ≡ 0 → step (programOf s) limit (stateOf s r vs words) ≡ unwound (programOf s) (framesOf s words (r .waiting))
+  out R z = R .outcome ∙ ap (λ (k : ℕ). raised (programOf s) (r .function) k (take (varsOf s (r .function)) vs) (framesOf s words (r .waiting))) z
 
-  out-extra : {n : ℕ} → operationAt s (r .at) ≡ Raise n → r .handler ≡ 0 → extra (programOf s) (stateOf s r vs words) ≡ caught (framesOf s words (r .waiting))
-  out-extra e z = extra-is F H e ∙ ap (λ (k : ℕ). caughtOutside k (framesOf s words (r .waiting))) z
+  out-extra : {x k : ℕ} → Raises s limit r vs words x → r .handler ≡ 0 → caught (framesOf s words (r .waiting)) ≡ k → x + k ≡ r .extras + extra (programOf s) (stateOf s r vs words)
+  out-extra {x} R z e = sym (R .counted ∙ ap (λ (k : ℕ). x + k) (ap (λ (k : ℕ). caughtOutside k (framesOf s words (r .waiting))) z ∙ e))
 
   -- No frame has one.
-  pub raise-uncaught : {n k : ℕ} → operationAt s (r .at) ≡ Raise n → r .handler ≡ 0 → k ≡ newestGuarded (framesOf s words (r .waiting)) → k ≡ 0 → StepResult s limit r vs words (Ended Uncaught (r .extras)) vs words
-  raise-uncaught e z g q =
+  pub raise-uncaught : {x k : ℕ} → Raises s limit r vs words x → r .handler ≡ 0 → k ≡ newestGuarded (framesOf s words (r .waiting)) → k ≡ 0 → StepResult s limit r vs words (Ended Uncaught x) vs words
+  raise-uncaught R z g q =
       let u : Unwinds s words (r .waiting) 0 = subst (Unwinds s words (r .waiting)) (sym g ∙ q) (unwinds s words (r .waiting)) in
-      record { outcome = sym (out e z ∙ u .0); held = no-extras F H (out-extra e z ∙ u .1); kept = refl; sameLength = refl }
+      record { outcome = sym (out R z ∙ u .0); held = no-extras refl ∙ out-extra R z (u .1); kept = refl; sameLength = refl }
 
   -- The newest frame that has one, the k-th oldest.
   module _ {k : ℕ} (g : k ≡ newestGuarded (framesOf s words (r .waiting))) (p : 0 < k) where
@@ -225,18 +223,18 @@ module _ {s : List ℕ} (F : FileInvariant s) {limit : ℕ} {r : Regs} {vs words
         → (h .word0 < length (programOf s)) × IsLabel (length (functionAt s (h .word0) .blocks)) (h .word1)
     caught-label eh = let S = frame-safe caught-below eh in (S .function, (rw eh (unwinding .1), S .handler))
 
-    pub raise-caught : {n : ℕ} {h : Head} {us : List ℤ} {q : Regs} → operationAt s (r .at) ≡ Raise n → r .handler ≡ 0 → h ≡ headOf (frameAt (k - 1) words)
-        → us ≡ lay 0 (take 32 (drop (48 * (k - 1) + 4) words)) vs → q ≡ startRegs s (h .word0) (h .word1) (k - 1) (r .extras + 1) → StepResult s limit r vs words (Next q) us words
+    pub raise-caught : {x : ℕ} {h : Head} {us : List ℤ} {q : Regs} → Raises s limit r vs words x → r .handler ≡ 0 → h ≡ headOf (frameAt (k - 1) words)
+        → us ≡ lay 0 (take 32 (drop (48 * (k - 1) + 4) words)) vs → q ≡ startRegs s (h .word0) (h .word1) (k - 1) (x + 1) → StepResult s limit r vs words (Next q) us words
     unfolding stateOf
-    raise-caught {h = h} {us = us} e z eh eu eq =
+    raise-caught {h = h} {us = us} R z eh eu eq =
         let l : k - 1 < r .waiting = caught-below in
         let S = frame-safe l eh in
         let i : IsLabel (length (functionAt s (h .word0) .blocks)) (h .word1) = caught-label eh .1 in
         rw eq
         (moved F H
-        (out e z
+        (out R z
         ∙ (unwinding .2
         ∙ (ap (λ (f : Frame). unwound (programOf s) (f ∷ framesOf s words (k - 1))) (frame-is l eh eu)
         ∙ (unwound-guarded (programOf s) (h .word0) (h .word1) (restAt s (h .word2)) (take (varsOf s (h .word0)) us) (h .word3) (framesOf s words (k - 1)) (i .0)
         ∙ enters F (S .function) i (take (varsOf s (h .word0)) us) (framesOf s words (k - 1))))))
-        (F .start (h .word0) (h .word1) (S .function) (i .1)) (λ j x. H .frames j (omega arith)) (us-long l eh eu) refl refl (ap (λ (j : ℕ). r .extras + j) (sym (out-extra e z ∙ unwinding .3))))
+        (F .start (h .word0) (h .word1) (S .function) (i .1)) (λ j x. H .frames j (omega arith)) (us-long l eh eu) refl refl (out-extra R z (unwinding .3)))

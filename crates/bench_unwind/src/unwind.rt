@@ -12,7 +12,7 @@ use procedure_operations::numbers::VariableNumber;
 use procedure_operations::operation::Operation;
 use runs::End;
 ghost use mathlib.Core.Path.{_≡_};
-ghost use Prim.Native.Nat.{_<_};
+ghost use Prim.Native.Nat.{_<_, _≤_};
 ghost use lib.ListN.{length};
 ghost use Rattle.semantics.specs.WellFormed.{IsLabel};
 ghost use Rattle.semantics.specs.Matching.{newestGuarded};
@@ -21,6 +21,7 @@ ghost use Rattle.procedure_file.specs.Check.{programOf};
 ghost use Rattle.procedure_file.specs.Loaded.{Tabled, Loaded};
 ghost use Rattle.procedure_file.specs.FileInvariant.{FileInvariant};
 ghost use Rattle.bench_frames.specs.Machine.{functionAt, startRegs, framesOf, Invariant, StepResult};
+ghost use Rattle.bench_unwind.specs.Raises.{Raises};
 
 // The start of the block with label l, which is not 0, of function f.
 pub fn entered(
@@ -103,7 +104,7 @@ fn guarded(file: &[u8], limit: usize, r: Regs, vars: &[i32; 32], words: &[i32]) 
     w
 }
 
-// The handler of the newest frame that has one, the k-th oldest.
+// A step that raises, to the handler of the newest frame that has one, the k-th oldest.
 fn caught_step(
     file: &[u8],
     starts: &[u16; 2048],
@@ -111,13 +112,13 @@ fn caught_step(
     r: Regs,
     vars: &mut [i32; 32],
     words: &[i32],
-    next: usize,
+    extras: u64,
     k: usize,
 ) -> Step
     requires { ⌜ Loaded (now file) (now starts) ⌝ }
     requires { ⌜ Invariant (now file) limit r (now vars) (now words) ⌝ }
-    requires { ⌜ operationAt (now file) (r .at) ≡ Operation.Raise next ⌝ }
-    requires { ⌜ r .extras < 9223372036854775808 ⌝ }
+    requires { ⌜ Raises (now file) limit r (now vars) (now words) extras ⌝ }
+    requires { ⌜ extras ≤ 9223372036854775808 ⌝ }
     requires { ⌜ (r .handler ≡ 0) × (k ≡ newestGuarded (framesOf (now file) (now words) (r .waiting))) × (0 < k) ⌝ }
     ensures { λ x. ⌜ StepResult (now (file .entry)) limit r (now (vars .entry)) (now (words .entry)) x (now (vars .exit)) (now (words .entry)) ⌝ }
 {
@@ -127,11 +128,11 @@ fn caught_step(
     let from = FRAME_SIZE * d + 4;
     copy(words, from, vars, 0, MAX_VARIABLES);
     let l = h.word1;
-    let extras = r.extras + 1;
-    Step::Next(entered(file, starts, f, l, d, extras))
+    let more = extras + 1;
+    Step::Next(entered(file, starts, f, l, d, more))
 }
 
-// 8 raise
+// A step that raises, with the extras counted before what catching it adds.
 pub fn raise_step(
     file: &[u8],
     starts: &[u16; 2048],
@@ -139,24 +140,24 @@ pub fn raise_step(
     r: Regs,
     vars: &mut [i32; 32],
     words: &[i32],
-    next: usize,
+    extras: u64,
 ) -> Step
     requires { ⌜ Loaded (now file) (now starts) ⌝ }
     requires { ⌜ Invariant (now file) limit r (now vars) (now words) ⌝ }
-    requires { ⌜ operationAt (now file) (r .at) ≡ Operation.Raise next ⌝ }
-    requires { ⌜ r .extras < 9223372036854775808 ⌝ }
+    requires { ⌜ Raises (now file) limit r (now vars) (now words) extras ⌝ }
+    requires { ⌜ extras ≤ 9223372036854775808 ⌝ }
     ensures { λ x. ⌜ StepResult (now (file .entry)) limit r (now (vars .entry)) (now (words .entry)) x (now (vars .exit)) (now (words .entry)) ⌝ }
 {
     let h = r.handler;
     if h != 0 {
-        return Step::Next(entered(file, starts, r.function, h, r.waiting, r.extras));
+        return Step::Next(entered(file, starts, r.function, h, r.waiting, extras));
     }
     let k = guarded(file, limit, r, vars, words);
     if k == 0 {
         return Step::Ended {
             end: End::Uncaught,
-            extras: r.extras,
+            extras: extras,
         };
     }
-    caught_step(file, starts, limit, r, vars, words, next, k)
+    caught_step(file, starts, limit, r, vars, words, extras, k)
 }

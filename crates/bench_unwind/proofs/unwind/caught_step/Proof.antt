@@ -31,12 +31,12 @@ add-from c = omega (arith, frame-read c .depthBound)
 copy-requires : tie.Need-copy-requires
 copy-requires c κs = frame-read (c .before) .copied
 
-add-extras : tie.Need-add-extras
-add-extras c = search needs
+add-more : tie.Need-add-more
+add-more c = search needs
 
 entered-requires : tie.Need-entered-requires
 entered-requires c κs =
-    let at-head-at = c .before .before .before in
+    let at-head-at = c .before .before in
     let entry = at-head-at .before .before in (
       entry .pre .0 .tabled,
       caught-label (loaded-invariant (entry .pre .0)) (entry .pre .1 .0) (entry .pre .1 .1 .1 .1 .1) (entry .pre .1 .1 .1 .1 .2) (at-head-at .head-at .ensures),
@@ -44,7 +44,7 @@ entered-requires c κs =
 
 returns : tie.Need-returns
 returns c =
-    let at-copy = c .before .before in
+    let at-copy = c .before in
     let at-head-at = at-copy .before .before in
     let entry = at-head-at .before .before in
     raise-caught (loaded-invariant (entry .pre .0)) (entry .pre .1 .0) (entry .pre .1 .1 .1 .1 .1) (entry .pre .1 .1 .1 .1 .2) (entry .pre .1 .1 .0) (entry .pre .1 .1 .1 .1 .0)
@@ -59,6 +59,6 @@ caught-step-spec =
     mul-from
     add-from
     copy-requires
-    add-extras
+    add-more
     entered-requires
     returns)

@@ -9,7 +9,7 @@ use Rattle.bench_unwind.proofs.unwind.raise_step.Tie as tie
 entered-requires : tie.Need-entered-requires
 entered-requires c κs =
     let entry = c .before .before in
-    (entry .pre .0 .tabled, here-safe (loaded-invariant (entry .pre .0)) (entry .pre .1 .0) (entry .pre .1 .1 .0) (c .if1 .taken))
+    (entry .pre .0 .tabled, here-safe (loaded-invariant (entry .pre .0)) (entry .pre .1 .0) (c .if1 .taken))
 
 returns : tie.Need-returns
 returns c =
