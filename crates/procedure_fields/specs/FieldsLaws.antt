@@ -13,7 +13,7 @@ use Rattle.procedure_operations.specs.declared.operation.Operation.{Operation}
 use Rattle.procedure_operations.specs.declared.operation.Operation.the-variants.{Constant, Copy, Difference, Call, Goto, Return, Branch, Raise, Refused}
 use Rattle.procedure_operations.specs.Operation.{operationAt, argumentsAt}
 use Rattle.procedure_operations.specs.Ranges.{NumbersInRange}
-use Rattle.procedure_operations.specs.OperationLaws.{op-constant, op-copy, op-difference, op-call, op-goto, op-return, op-branch, op-raise}
+use Rattle.procedure_operations.specs.OperationLaws.{op-constant, op-copy, op-difference, op-call, op-goto, op-return, op-branch}
 use Rattle.procedure_operations.specs.ViewLaws.{View, isConstant, isCopy, isDifference, isCall, isGoto, isReturn, isBranch, isRaise, isRefused, view}
 use Rattle.procedure_fields.specs.Number.{numberOf, countOf}
 use Rattle.procedure_fields.specs.NumberLaws.{argument-in-range}
@@ -140,12 +140,6 @@ module _ (s : List ℕ) (at : ℕ) where
   pub branch-fields : {y z : ℕ} → numberOf (operationAt s at) ≡ 7 → y ≡ getD s (at + 1) 0 → z ≡ getD s (at + 2) 0
       → operationAt s at ≡ Branch y z (getD s (at + 3) 0) (getD s (at + 4) 0) (at + 5)
   branch-fields e p q = rw (p, q) (branch-bytes e)
-
-  pub raise-room : numberOf (operationAt s at) ≡ 8 → at + 1 ≤ length s
-  raise-room e = written 8 e (omega arith) .room
-
-  pub raise-fields : numberOf (operationAt s at) ≡ 8 → operationAt s at ≡ Raise (at + 1)
-  raise-fields e = op-raise s at (written 8 e (omega arith) .number) (raise-room e)
 
   -- Argument i of a call.
   module _ (i : ℕ) (h : i < countOf (operationAt s at)) where

@@ -228,12 +228,3 @@ pub fn branch_fields(file: &[u8], at: usize) -> BranchFields
         next,
     }
 }
-
-// 8 raise: the offset past it.
-pub fn raise_fields(file: &[u8], at: usize) -> usize
-    requires { ⌜ numberOf (operationAt (now file) at) ≡ 8 ⌝ }
-    ensures { λ r. ⌜ operationAt (now (file .entry)) at ≡ Operation.Raise r ⌝ }
-{
-    let next = at + 1;
-    next
-}
