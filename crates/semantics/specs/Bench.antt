@@ -5,9 +5,9 @@ use mathlib.Core.Bool.{cond}
 use mathlib.Core.List.{List, [], _∷_, _++_}
 use mathlib.Core.Option.{Option, none, some}
 use lib.Dec.{leb}
-use lib.IntN.{ℤ, pos}
+use lib.IntN.{ℤ, pos, _-ℤ_}
 use lib.ListN.{length, getElem?, set, replicate}
-use Rattle.semantics.specs.Value.{minus, atMost}
+use Rattle.semantics.specs.Value.{inRange, atMost}
 use Rattle.semantics.specs.Program.{FunctionNumber, Variable, Label, Handler, Block, constant, copy, difference, call, goto, return, branch, raise, Labelled, Function, Program, functionOf}
 use Rattle.semantics.specs.Run.{value, uncaught, Outcome, next, end, tooDeep, stuck, Result, run}
 
@@ -78,7 +78,8 @@ unfoldable pub step : Program → ℕ → State → Outcome State
 step P d (state f h (constant x i b) vs fs) = next (state f h b (set vs x i) fs)
 step P d (state f h (copy x y b) vs fs) = given (getElem? vs y) (λ v. next (state f h b (set vs x v) fs))
 step P d (state f h (difference x y z b) vs fs) =
-    given (getElem? vs y) (λ v. given (getElem? vs z) (λ w. next (state f h b (set vs x (minus v w)) fs)))
+    given (getElem? vs y) (λ v. given (getElem? vs z) (λ w.
+    cond (inRange (v -ℤ w)) (next (state f h b (set vs x (v -ℤ w)) fs)) (raised P f h vs fs)))
 step P d (state f h (call x g ys b) vs fs) =
     within d (length fs)
     (given (getElem? P g) (λ G. given (valuesOf vs ys) (λ args. next (begun g G args (frame f h b vs x ∷ fs)))))

@@ -17,11 +17,12 @@ use Rattle.semantics.specs.WellFormed.{All, WellFormed, WellFormedPlace,
 use Rattle.semantics.specs.Code.{Slot, Expr, jump, Target}
 use Rattle.semantics.specs.Controller.{unbound, whole, continuation, handler, Environment, bindingAt, put, bind, asContinuation, asHandler, wholesOf, Record, closure, control, parameters, controlStep}
 use Rattle.semantics.specs.Translation.{slotOf, code, bindZeros, entryTarget, number}
+use Rattle.semantics.specs.Extras.{valueOf}
 use Rattle.semantics.specs.Matching.{newestGuarded, bodyLeft, handlerBody}
 use Rattle.semantics.specs.ListLaws.{at-getD, put-same, put-other, put-end, map-append-one}
 use Rattle.semantics.specs.TranslationLaws.{entry-at}
 use Rattle.semantics.specs.MatchingLaws.{slotsOf, recordsOf, matching, length-records, matching-matches}
-use Rattle.semantics.specs.SlotLaws.{given-some, valueOf, held-variable, values-are, wholes-are}
+use Rattle.semantics.specs.SlotLaws.{given-some, held-variable, values-are, wholes-are}
 use Rattle.semantics.specs.Follow.{ControlGoes, Followed, Follows, by-equal-outcome, onward, below, function-wellFormed, follow-constant, follow-copy, follow-difference, follow-goto, follow-branch, follow-return, follow-raise}
 
 -- ── A function's locals ─────────────────────────────────────────────────────────────────────────
@@ -193,7 +194,7 @@ module _ (P : Program) (W : WellFormed P) (d : ℕ) (f : FunctionNumber) (x : Va
 pub follow : (P : Program) → WellFormed P → (d : ℕ) (S : State) → WellFormedState P S → Follows P d S (step P d S)
 follow P W d (state f h (constant x i b) vs fs) w = follow-constant P d f h vs fs x i b (w .0) (w .1)
 follow P W d (state f h (copy x y b) vs fs) w = follow-copy P d f h vs fs x y b (w .0) (w .1)
-follow P W d (state f h (difference x y z b) vs fs) w = follow-difference P d f h vs fs x y z b (w .0) (w .1)
+follow P W d (state f h (difference x y z b) vs fs) w = follow-difference P W d f h vs fs x y z b (w .0) (w .1)
 follow P W d (state f h (call x g ys b) vs fs) w = follow-call P W d f x g ys b vs fs h (w .0) (w .1)
 follow P W d (state f h (goto l) vs fs) w = follow-goto P W d f vs fs h l (w .0) (w .1)
 follow P W d (state f h (return x) vs fs) w = follow-return P d f h x vs fs (w .0) (w .1)

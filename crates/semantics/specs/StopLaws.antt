@@ -4,17 +4,18 @@ use native.Mathlib.Omega.{arith}
 use native.Mathlib.Nat.{add-zero}
 use mathlib.Core.Path.{_≡_, refl, sym, ap, _∙_, subst}
 use mathlib.Core.Logic.{_↔_}
-use mathlib.Core.Bool.{Bool, true, false}
+use mathlib.Core.Bool.{Bool, true, false, cond}
 use mathlib.Core.List.{List, [], _∷_}
 use lib.Dec.{leb}
 use borrow.Author.Tests.{leb-true, leb-false}
-use lib.IntN.{ℤ}
+use lib.IntN.{ℤ, _-ℤ_}
+use Rattle.semantics.specs.Value.{inRange}
 use Rattle.semantics.specs.Program.{constant, copy, difference, call, goto, return, branch, raise, Program, functionOf}
 use Rattle.semantics.specs.Run.{End, Outcome, next, end, tooDeep, stuck, Stop, ended, spent, deep, broken, IsSpent, IsDeep, IsBroken, Result, told, oneMoreIfDeep, spentIfDeep, after, added, run, total}
 use Rattle.semantics.specs.Bench.{Frame, frame, State, state, begun, step, bench}
 use Rattle.semantics.specs.Controller.{Control, control, started, controlStep, controller}
 use Rattle.semantics.specs.Code.{Code}
-use Rattle.semantics.specs.Extras.{caught, caughtOutside, extra, extras}
+use Rattle.semantics.specs.Extras.{caught, caughtOutside, valueOf, extra, extras}
 use Rattle.semantics.specs.Matching.{over, going, holding, HoldingsMatch}
 use Rattle.semantics.specs.Statement.{SameCall, StopsMatch, Agree}
 use Rattle.semantics.specs.RunLaws.{IsLast, last, Goes, Ran, ran-spent, ran-last, ran, run-spent, run-last, run-deep}
@@ -89,11 +90,15 @@ outside-bound : (h : ℕ) (fs : List Frame) → caughtOutside h fs ≤ 1
 outside-bound zero fs = caught-bound fs
 outside-bound (suc h) fs = omega arith
 
-module _ (P : Program) (m : ℕ) (localsBound : (g : ℕ) → functionOf P g .locals ≤ m) where
+module _ (P : Program) (m : ℕ) (one : 1 ≤ m) (localsBound : (g : ℕ) → functionOf P g .locals ≤ m) where
   pub extra-bound : (S : State) → extra P S ≤ suc m
   extra-bound (state f h (constant x i b) vs fs) = omega arith
   extra-bound (state f h (copy x y b) vs fs) = omega arith
-  extra-bound (state f h (difference x y z b) vs fs) = omega arith
+  extra-bound (state f h (difference x y z b) vs fs) = by (inRange (valueOf vs y -ℤ valueOf vs z))
+    where
+      by : (c : Bool) → cond c 0 (suc (caughtOutside h fs)) ≤ suc m
+      by true = omega arith
+      by false = let l : caughtOutside h fs ≤ 1 = outside-bound h fs in omega arith
   extra-bound (state f h (call x g ys b) vs fs) = let l : functionOf P g .locals ≤ m = localsBound g in omega arith
   extra-bound (state f h (goto l) vs fs) = omega arith
   extra-bound (state f h (return x) vs fs) = omega arith

@@ -5,7 +5,7 @@ use mathlib.Core.List.{List, [], _∷_, _++_, map}
 use lib.IntN.{pos}
 use lib.ListN.{length}
 use Rattle.semantics.specs.Program.{FunctionNumber, Variable, Label, Handler, Block, constant, copy, difference, call, goto, return, branch, raise, Labelled, Function, Program, variables}
-use Rattle.semantics.specs.Code.{Slot, Expr, letConstant, letSlot, letDifference, jump, resume, handle, ifAtMost, letContinuation, letContinuationWithHandler, Target, Code}
+use Rattle.semantics.specs.Code.{Slot, Expr, letConstant, letSlot, jump, resume, handle, ifAtMost, letContinuation, letContinuationWithHandler, letDifferenceOrRaise, Target, Code}
 
 -- Variable v is in slot v + 2.
 abbrev pub slotOf : Variable → Slot
@@ -30,7 +30,8 @@ raiseCode base v (suc l) = toLabel base v (suc l)
 unfoldable pub code : (FunctionNumber → ℕ) → ℕ → ℕ → Handler → Block → Expr
 code numbers base v h (constant x i b) = letConstant (slotOf x) i (code numbers base v h b)
 code numbers base v h (copy x y b) = letSlot (slotOf x) (slotOf y) (code numbers base v h b)
-code numbers base v h (difference x y z b) = letDifference (slotOf x) (slotOf y) (slotOf z) (code numbers base v h b)
+code numbers base v h (difference x y z b) =
+    letDifferenceOrRaise (slotOf x) (slotOf y) (slotOf z) (raiseCode base v h) (code numbers base v h b)
 code numbers base v zero (call x g ys b) =
     letContinuation (slotOf v) (slotOf x) (jump (numbers g) (slotOf v) 1 (map slotOf ys)) (code numbers base v zero b)
 code numbers base v (suc l) (call x g ys b) =

@@ -11,7 +11,7 @@ use Rattle.semantics.specs.WellFormed.{All, IsLabel, WellFormedBlock, We
 use Rattle.semantics.specs.Code.{Slot, Expr, jump, Target}
 use Rattle.semantics.specs.Controller.{put, noTarget}
 use Rattle.semantics.specs.SlotRules.{unboundKind, wholeKind, continuationKind, handlerKind, Kinds, kindAt, bindKind, IsBound, KeepsRules, entryKinds, KeepsSlotRules}
-use Rattle.semantics.specs.Translation.{slotOf, slotsFrom, toLabel, code, bindZeros, entryTarget, blockTarget, targets, number, translateFunction, translateFrom, translate}
+use Rattle.semantics.specs.Translation.{slotOf, slotsFrom, toLabel, raiseCode, code, bindZeros, entryTarget, blockTarget, targets, number, translateFunction, translateFrom, translate}
 use Rattle.semantics.specs.Statement.{TranslationKeepsRules}
 use Rattle.semantics.specs.ListLaws.{at-getD, at-below, getD-at, all-getD, all-append, all-mapped, put-same, put-other}
 use Rattle.semantics.specs.TranslationLaws.{entry-at, block-at}
@@ -117,6 +117,11 @@ module _ (m : ℕ) (P : Program) (W : WellFormed P) (small : All (λ F. slotOf (
           variables-bound m (variables F) room 0 (variables F) (zero-add (variables F)),
         )
 
+    raise-rules : (h : Handler) → h ≤ length (F .blocks) → KeepsRules (translate P) m (entryKinds (variables F)) (raiseCode (number P f) (variables F) h)
+    unfolding F
+    raise-rules zero lh = (oneBelow, refl)
+    raise-rules (suc l) lh = label-rules (suc l) (omega arith, lh)
+
     -- A block under a handler.
     code-rules : (h : Handler) → h ≤ length (F .blocks) → (b : Block) → WellFormedBlock P (variables F) (length (F .blocks)) b → KeepsRules (translate P) m (entryKinds (variables F)) (code (number P) (number P f) (variables F) h b)
     unfolding code F called guarded
@@ -137,6 +142,7 @@ module _ (m : ℕ) (P : Program) (W : WellFormed P) (small : All (λ F. slotOf (
           omega arith,
           variable-bound m (variables F) room y (w .1),
           variable-bound m (variables F) room z (w .2),
+          raise-rules h lh,
           subst (λ (ks : Kinds). KeepsRules (translate P) m ks (code (number P) (number P f) (variables F) h b)) (sym (bind-among (variables F) x (w .0))) (code-rules h lh b (w .3)),
         )
     code-rules zero lh (call x g ys b) w =
@@ -162,8 +168,7 @@ module _ (m : ℕ) (P : Program) (W : WellFormed P) (small : All (λ F. slotOf (
     code-rules h lh (goto l) w = label-rules l w
     code-rules h lh (return x) w = let one : 1 < m = oneBelow in ((omega arith, refl), variable-bound m (variables F) room x w)
     code-rules h lh (branch y z l k) w = (variable-bound m (variables F) room y (w .0), variable-bound m (variables F) room z (w .1), label-rules l (w .2), label-rules k (w .3))
-    code-rules zero lh raise w = (oneBelow, refl)
-    code-rules (suc l) lh raise w = label-rules (suc l) (omega arith, lh)
+    code-rules h lh raise w = raise-rules h lh
 
     -- Each local is bound in its turn.
     zeros-rules : (p n : ℕ) (e : Expr) → p + n ≡ variables F → KeepsRules (translate P) m (entryKinds (variables F)) e → KeepsRules (translate P) m (entryKinds p) (bindZeros (slotOf p) n e)
