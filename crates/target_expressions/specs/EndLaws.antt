@@ -20,7 +20,7 @@ use Rattle.parsing.specs.Fields.{counted}
 use Rattle.parsing.specs.ParserLaws.{past-read}
 use Rattle.target_tags.proofs.tag.Tag.{the-type}
 use Rattle.target_tags.specs.declared.tag.Tag.{Tag}
-use Rattle.target_tags.specs.declared.tag.Tag.the-variants.{Constant, Copy, Difference, Jump, Resume, Handle, Branch, Continuation, ContinuationWithHandler, Refused}
+use Rattle.target_tags.specs.declared.tag.Tag.the-variants.{Constant, Copy, Difference, Jump, Resume, Handle, Branch, Continuation, ContinuationWithHandler, DifferenceOrRaise, Refused}
 use Rattle.target_tags.specs.Tag.{tagAt}
 use Rattle.target_tags.specs.ViewLaws.{seen}
 use Rattle.target_slots.specs.Slots.{bound}
@@ -232,6 +232,8 @@ module _ (names : Bool) (ps s : List ℕ) (level : ℕ) (ks : List ℕ) (at : �
   node-follows (ContinuationWithHandler x p t n next) =
       both-follow (ContinuationWithHandler x p t n next) (measured (at + 4) next n (nested s (inner names ps s) level (bound (bound ks x 2) t 3) next))
       (λ m. sized (λ s′ i. nested s (inner names ps s) level ks i) s m) (λ e h m. Bound m p) (λ e h m. refl)
+  node-follows (DifferenceOrRaise x y z n next) =
+      then-follows (DifferenceOrRaise x y z n next) (measured (at + 4) next n (nested s (inner names ps s) level ks next)) (λ e m. Bound m x) (λ e m. refl)
   node-follows (Refused r) = refl
 
   -- The names of a node, then its parts.
@@ -245,20 +247,15 @@ module _ (names : Bool) (ps s : List ℕ) (level : ℕ) (ks : List ℕ) (at : �
     node-wrong r e = rw (← is, e)
 
   module _ {t : Tag} {y : Scan} where
-    pub branch-on : {l r n next : ℕ} → t ≡ Branch l r n next → y ≡ partEnd names ps s level ks (at + 3) next n → y ≡ partsEnd names ps s level ks at t
-    unfolding partsEnd
-    branch-on e f = rw e f
+    pub parts-by-tag : {u : Tag} → t ≡ u → y ≡ partsEnd names ps s level ks at u → y ≡ partsEnd names ps s level ks at t
+    parts-by-tag e f = rw e f
 
     pub continuation-on : {x p n next : ℕ} (ks′ : List ℕ) → t ≡ Continuation x p n next → ks′ ≡ bound ks x 2 → y ≡ partEnd names ps s level ks′ (at + 3) next n → y ≡ partsEnd names ps s level ks at t
     unfolding partsEnd
     continuation-on ks′ e g f = rw (e, ← g) f
 
-    pub tag-9-on : {x p h n next : ℕ} → t ≡ ContinuationWithHandler x p h n next → y ≡ continuationWithHandlerEnd names ps s level ks at x h n next → y ≡ partsEnd names ps s level ks at t
-    unfolding partsEnd
-    tag-9-on e f = rw e f
-
-  -- A node that is none of tags 7, 8 and 9 (the keys of the enum, from 0).
-  pub no-parts : (t : Tag) → OneOf (0 ∷ 1 ∷ 2 ∷ 3 ∷ 4 ∷ 5 ∷ 9 ∷ []) (tagOf the-type t) → fieldsEnd t ≡ partsEnd names ps s level ks at t
+  -- A node that is none of tags 7 to 10 (the keys of the enum, from 0).
+  pub no-parts : (t : Tag) → OneOf (0 ∷ 1 ∷ 2 ∷ 3 ∷ 4 ∷ 5 ∷ 10 ∷ []) (tagOf the-type t) → fieldsEnd t ≡ partsEnd names ps s level ks at t
   unfolding partsEnd fieldsEnd
   no-parts (Constant x i next) w = refl
   no-parts (Copy x y next) w = refl
@@ -266,7 +263,8 @@ module _ (names : Bool) (ps s : List ℕ) (level : ℕ) (ks : List ℕ) (at : �
   no-parts (Jump g k h n next) w = refl
   no-parts (Resume k y next) w = refl
   no-parts (Handle h next) w = refl
-  no-parts (Branch y z n next) w = absurd (miss (0 ∷ 1 ∷ 2 ∷ 3 ∷ 4 ∷ 5 ∷ 9 ∷ []) 6 tt w)
-  no-parts (Continuation x p n next) w = absurd (miss (0 ∷ 1 ∷ 2 ∷ 3 ∷ 4 ∷ 5 ∷ 9 ∷ []) 7 tt w)
-  no-parts (ContinuationWithHandler x p t n next) w = absurd (miss (0 ∷ 1 ∷ 2 ∷ 3 ∷ 4 ∷ 5 ∷ 9 ∷ []) 8 tt w)
+  no-parts (Branch y z n next) w = absurd (miss (0 ∷ 1 ∷ 2 ∷ 3 ∷ 4 ∷ 5 ∷ 10 ∷ []) 6 tt w)
+  no-parts (Continuation x p n next) w = absurd (miss (0 ∷ 1 ∷ 2 ∷ 3 ∷ 4 ∷ 5 ∷ 10 ∷ []) 7 tt w)
+  no-parts (ContinuationWithHandler x p t n next) w = absurd (miss (0 ∷ 1 ∷ 2 ∷ 3 ∷ 4 ∷ 5 ∷ 10 ∷ []) 8 tt w)
+  no-parts (DifferenceOrRaise x y z n next) w = absurd (miss (0 ∷ 1 ∷ 2 ∷ 3 ∷ 4 ∷ 5 ∷ 10 ∷ []) 9 tt w)
   no-parts (Refused r) w = refl

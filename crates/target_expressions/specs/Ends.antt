@@ -7,7 +7,7 @@ use Rattle.parsing.specs.declared.Scan.{Scan}
 use Rattle.parsing.specs.declared.Scan.the-variants.{Past, Stopped}
 use Rattle.parsing.specs.Parser.{refusal, Parsed, read, refuse, pastOf, Verdict, accepted, refused}
 use Rattle.target_tags.specs.declared.tag.Tag.{Tag}
-use Rattle.target_tags.specs.declared.tag.Tag.the-variants.{Constant, Copy, Difference, Jump, Resume, Handle, Branch, Continuation, ContinuationWithHandler, Refused}
+use Rattle.target_tags.specs.declared.tag.Tag.the-variants.{Constant, Copy, Difference, Jump, Resume, Handle, Branch, Continuation, ContinuationWithHandler, DifferenceOrRaise, Refused}
 use Rattle.target_slots.specs.Slots.{bound}
 use Rattle.target_names.specs.Names.{judged}
 use Rattle.target_parts.specs.declared.parts.After.{After}
@@ -54,6 +54,7 @@ module _ (names : Bool) (ps s : List ℕ) where
   partsEnd level ks at (Branch y z n next) = partEnd level ks (at + 3) next n
   partsEnd level ks at (Continuation x p n next) = partEnd level (bound ks x 2) (at + 3) next n
   partsEnd level ks at (ContinuationWithHandler x p t n next) = continuationWithHandlerEnd level ks at x t n next
+  partsEnd level ks at (DifferenceOrRaise x y z n next) = partEnd level ks (at + 4) next n
   partsEnd level ks at (Refused r) = Stopped r
 
   -- The nested parts behind a node's own fields, and what follows them.

@@ -1,14 +1,14 @@
--- The reading of an expression (document 01, 'The translated file'): which expression the bytes at an offset are, or the first refusal.
+-- The reading of an expression (document 01, 'The translated file'; document 02, Slip 2): which expression the bytes at an offset are, or the first refusal.
 use Prim.Native.Nat.{ℕ, zero, suc, _+_}
 use mathlib.Core.Bool.{Bool}
 use mathlib.Core.List.{List}
 use lib.ListN.{length, take, drop}
-use Rattle.semantics.specs.Code.{Slot, Expr, letConstant, letSlot, letDifference, jump, resume, handle, ifAtMost, letContinuation, letContinuationWithHandler}
+use Rattle.semantics.specs.Code.{Slot, Expr, letConstant, letSlot, letDifference, jump, resume, handle, ifAtMost, letContinuation, letContinuationWithHandler, letDifferenceOrRaise}
 use Rattle.parsing.specs.declared.Refusal.{Refusal}
 use Rattle.parsing.specs.Parser.{refusal, Parsed, read, refuse, Parser, andThen, Verdict, accepted, refused}
 use Rattle.parsing.specs.Fields.{cut}
 use Rattle.target_tags.specs.declared.tag.Tag.{Tag}
-use Rattle.target_tags.specs.declared.tag.Tag.the-variants.{Constant, Copy, Difference, Jump, Resume, Handle, Branch, Continuation, ContinuationWithHandler, Refused}
+use Rattle.target_tags.specs.declared.tag.Tag.the-variants.{Constant, Copy, Difference, Jump, Resume, Handle, Branch, Continuation, ContinuationWithHandler, DifferenceOrRaise, Refused}
 use Rattle.target_tags.specs.Tag.{tagAt}
 use Rattle.target_slots.specs.Slots.{bound}
 use Rattle.target_names.specs.Names.{judged}
@@ -23,7 +23,7 @@ abbrev pub after : {A : Type 0} → Verdict → Parsed A → Parsed A
 after accepted x = x
 after (refused number place) x = refuse (refusal number place)
 
--- A part one level deeper: a then-part, a rest of tags 8 and 9, a handler body.
+-- A part one level deeper: a then-part, a rest of tags 8 and 9, a handler body, a raise part.
 abbrev pub nested : List ℕ → Reading → Reading
 nested s inner level ks at = after (levelVerdict s level at) (inner (level + 1) ks at)
 
@@ -49,6 +49,7 @@ pub data Node : Type 0 where
   missing : Refusal → Node
 
 -- "Bodies by tag." "A made body sees the slots bound before it, not its own": its parameter is bound there; a rest sees the new slots.
+-- A raise part "sees the slots bound before".
 abbrev pub nodeOf : List ℕ → List ℕ → ℕ → Tag → Node
 nodeOf s ks at (Constant x i next) = found next (goesOnBound x (letConstant x i))
 nodeOf s ks at (Copy x y next) = found next (goesOnBound x (letSlot x y))
@@ -60,6 +61,7 @@ nodeOf s ks at (Branch y z n next) = found next (part (at + 3) n ks (λ e. goesO
 nodeOf s ks at (Continuation x p n next) = found next (part (at + 3) n (bound ks x 2) (λ e. goesOnBound p (letContinuation x p e)))
 nodeOf s ks at (ContinuationWithHandler x p t n next) =
     found next (part (at + 4) n (bound (bound ks x 2) t 3) (λ e. sizedPart ks (λ h. goesOnBound p (letContinuationWithHandler x p t e h))))
+nodeOf s ks at (DifferenceOrRaise x y z n next) = found next (part (at + 4) n ks (λ r. goesOnBound x (letDifferenceOrRaise x y z r)))
 nodeOf s ks at (Refused r) = missing r
 
 -- "An expression holds bodies, and a body is again an expression": `inner` reads what stands behind.

@@ -77,7 +77,7 @@ fn node_end(
     }
 }
 
-// The end of a node with its nested parts: tags 7, 8 and 9 have such.
+// The end of a node with its nested parts: tags 7 to 10 have such.
 fn parts_end(
     file: &[u8],
     params: &[u8],
@@ -122,6 +122,9 @@ fn parts_end(
             size,
             next,
         ),
+        Tag::DifferenceOrRaise { size, next, .. } => {
+            part_end(file, params, names, level, kinds, next, size, at + 4)
+        }
         _ => parts::fields_end(node),
     }
 }

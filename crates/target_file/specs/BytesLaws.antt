@@ -3,7 +3,7 @@ use Prim.Native.Nat.{ℕ, _≤_, _<_}
 use mathlib.Core.List.{List, _++_}
 use native.Mathlib.Omega.{arith}
 use lib.ListN.{length}
-use Rattle.semantics.specs.Code.{Expr, letConstant, letSlot, letDifference, jump, resume, handle, ifAtMost, letContinuation, letContinuationWithHandler, Target, Code}
+use Rattle.semantics.specs.Code.{Expr, letConstant, letSlot, letDifference, jump, resume, handle, ifAtMost, letContinuation, letContinuationWithHandler, letDifferenceOrRaise, Target, Code}
 use Rattle.semantics.specs.Controller.{targetOf, noTarget}
 use Rattle.semantics.specs.WellFormed.{All}
 use Rattle.semantics.specs.SlotRules.{Kinds, wholeKind, IsBound, KeepsRules}
@@ -58,6 +58,12 @@ module _ (Q : Code) (r : InRange Q) where
       (more p (omega (arith, w .1))
       (more t (omega (arith, w .2))
       (sized-row e m (expr-row _ e (w .4) (f .0) m) (sized-row h o (expr-row _ h (w .5) (f .1 .0) o) (expr-row _ k (w .6) (f .1 .1) (omega (arith, n))))))))
+  expr-row ks (letDifferenceOrRaise x y z c e) w f n =
+      let m : size c < 65536 = omega (arith, n) in
+      more 10 (omega arith)
+      (more x (omega (arith, w .0))
+      (more y (omega (arith, w .1 .0))
+      (more z (omega (arith, w .2 .0)) (sized-row c m (expr-row _ c (w .3) (f .0) m) (expr-row _ e (w .4) (f .1) (omega (arith, n)))))))
 
   target-row : (D : Target) → TargetInRange D → KeepsBody Q D → size (D .body) < 65536 → Row (targetBytes D)
   target-row D d w n =

@@ -11,11 +11,11 @@ use Rattle.parsing.specs.Parser.{read, accepted, orElse}
 use Rattle.parsing.specs.VerdictLaws.{or-accepted}
 use Rattle.parsing.specs.ParserLaws.{sequence}
 use Rattle.target_tags.specs.declared.tag.Tag.{Tag}
-use Rattle.target_tags.specs.declared.tag.Tag.the-variants.{Branch, Continuation, ContinuationWithHandler}
+use Rattle.target_tags.specs.declared.tag.Tag.the-variants.{Branch, Continuation, ContinuationWithHandler, DifferenceOrRaise}
 use Rattle.target_tags.specs.Tag.{pairAt, tagAt}
 use Rattle.target_slots.specs.Slots.{binds, reads, differ, bound}
 use Rattle.target_names.specs.Names.{function, arity, values, jumpNames, continuationWithHandlerNames, namesOf, judged}
-use Rattle.target_tags.specs.ViewLaws.{View, isConstant, isCopy, isDifference, isJump, isResume, isHandle, isBranch, isContinuation, isBoth, isRefused, view}
+use Rattle.target_tags.specs.ViewLaws.{View, isConstant, isCopy, isDifference, isJump, isResume, isHandle, isBranch, isContinuation, isBoth, isDifferenceOrRaise, isRefused, view}
 use Rattle.target_parts.specs.Parts.{measured, sized}
 use Rattle.target_expressions.specs.Expressions.{Reading, nested, Behind, ends, goesOn, goesOnBound, part, sizedPart, Node, found, missing, nodeOf, readBehind, readNode, expressionN, expression, slotsAt}
 use Rattle.semantics.specs.SlotRules.{wholeKind, continuationKind, handlerKind, Kinds, bindKind, KeepsRules}
@@ -23,7 +23,7 @@ use Rattle.target_file.specs.Check.{arities}
 use Rattle.target_file.specs.Writing.{size, Nests}
 use Rattle.target_file.specs.LoadedCode.{ExprAt}
 use Rattle.target_expressions.specs.PartLaws.{impossible, before-read, after-read, measured-read, nested-read, sized-read}
-use Rattle.target_file.specs.RightLaws.{Like, like-bind, binds-right, reads-right, differ-right, function-right, arity-right, values-right}
+use Rattle.target_file.specs.RightLaws.{Like, like-bind, binds-right, reads-right, difference-right, differ-right, function-right, arity-right, values-right}
 
 pub slots-length : (s : List ℕ) (at n : ℕ) → at + n ≤ length s → length (slotsAt s at n) ≡ n
 slots-length s at n h = let l = length-drop at s in length-take-le n (drop at s) (omega arith)
@@ -126,10 +126,8 @@ module _ (names : Bool) (ps s : List ℕ) (Q : Code) (named : names ≡ true →
           past = omega (arith, F .past);
           nests = F .nests;
           right = λ q KS l.
-              let a = or-accepted (binds (at + 1) x) (orElse (reads ks 1 (at + 2) y) (reads ks 1 (at + 3) z)) (right q) in
-              let c = or-accepted (reads ks 1 (at + 2) y) (reads ks 1 (at + 3) z) (a .1) in
-              let b = binds-right (at + 1) x (a .0) in
-              (b, reads-right l wholeKind (at + 2) y (c .0), reads-right l wholeKind (at + 3) z (c .1), F .right q (bindKind KS x wholeKind) (like-bind x wholeKind b l));
+              let a = difference-right l at x y z (right q) in
+              (a .0, a .1, a .2, F .right q (bindKind KS x wholeKind) (like-bind x wholeKind (a .0) l));
         })
     from-found (isJump f h) is right (o, m) =
         let g = pairAt s (at + 1) in
@@ -211,6 +209,19 @@ module _ (names : Bool) (ps s : List ℕ) (Q : Code) (named : names ≡ true →
                 H .stands .right q KS l,
                 F .right q (bindKind KS y wholeKind) (like-bind y wholeKind b₂ l),
               );
+        })
+    from-found (isDifferenceOrRaise f h) is right (r, P, (k, F, o)) =
+        let x = getD s (at + 1) 0 in
+        let y = getD s (at + 2) 0 in
+        let z = getD s (at + 3) 0 in
+        by-equal o
+        (record {
+          here = (sym is ∙ ap (λ (j : ℕ). DifferenceOrRaise x y z j (at + 6)) (P .fills), P .stands .here, F .here);
+          past = omega (arith, F .past);
+          nests = (P .shallow, P .stands .nests, F .nests);
+          right = λ q KS l.
+              let a = difference-right l at x y z (right q) in
+              (a .0, a .1, a .2, P .stands .right q KS l, F .right q (bindKind KS x wholeKind) (like-bind x wholeKind (a .0) l));
         })
     from-found (isRefused r) is right w = absurd w
 

@@ -1,5 +1,5 @@
 -- Code that is written stands where it is written.
-use Prim.Native.Nat.{ℕ, suc, _+_, _*_, _/_, _%_}
+use Prim.Native.Nat.{ℕ, suc, _+_, _*_, _/_, _%_, _≤_}
 use mathlib.Core.Path.{_≡_, refl, sym, ap, _∙_}
 use mathlib.Core.List.{List, [], _∷_, _++_, append-assoc}
 use native.Mathlib.Omega.{arith}
@@ -8,15 +8,15 @@ use lib.ListN.{length, getD, take, drop, length-append}
 use lib.Seq.{take-append-seam}
 use mir.Syntax.{w32}
 use mir.Val.{SFits}
-use Rattle.semantics.specs.Code.{Expr, letConstant, letSlot, letDifference, jump, resume, handle, ifAtMost, letContinuation, letContinuationWithHandler, Code}
+use Rattle.semantics.specs.Code.{Expr, letConstant, letSlot, letDifference, jump, resume, handle, ifAtMost, letContinuation, letContinuationWithHandler, letDifferenceOrRaise, Code}
 use Rattle.parsing.specs.Parser.{joined}
 use Rattle.parsing.specs.Fields.{valueAt}
 use Rattle.parsing.specs.Bytes.{pairBytes, valueBytes}
 use Rattle.parsing.specs.BytesLaws.{pair-forth, value-forth}
 use Rattle.parsing.specs.ReadsLaws.{byte-here, first-here, length-here, next-here, behind}
-use Rattle.target_tags.specs.declared.tag.Tag.the-variants.{Constant, Copy, Difference, Jump, Resume, Handle, Branch, Continuation, ContinuationWithHandler}
+use Rattle.target_tags.specs.declared.tag.Tag.the-variants.{Constant, Copy, Difference, Jump, Resume, Handle, Branch, Continuation, ContinuationWithHandler, DifferenceOrRaise}
 use Rattle.target_tags.specs.Tag.{pairAt, tagAt}
-use Rattle.target_tags.specs.TagLaws.{tag-1, tag-2, tag-3, tag-4, tag-5, tag-6, tag-7, tag-8, tag-9, constant-in, copy-in, difference-in, jump-in, resume-in, handle-in, branch-in, continuation-in, tag-9-in}
+use Rattle.target_tags.specs.TagLaws.{tag-1, tag-2, tag-3, tag-4, tag-5, tag-6, tag-7, tag-8, tag-9, tag-10, constant-in, copy-in, difference-in, jump-in, resume-in, handle-in, branch-in, continuation-in, tag-9-in, tag-10-in}
 use Rattle.target_file.specs.Writing.{Parts, ends, bytes, constant, nested, partsOf, partsSize, partsBytes, size, exprBytes, targetBytes, ConstantsFit}
 use Rattle.target_file.specs.LoadedCode.{ExprAt}
 use Rattle.target_file.specs.CodeLaws.{codeSize, CodeAt}
@@ -105,13 +105,38 @@ module _ (s : List ℕ) where
         (continuation-in s at x p n (omega arith) (sym (b 1)) (sym (b 2)) (pair-here at (8 ∷ x ∷ p ∷ (pairBytes n ++ rest)) h 3 n refl refl)
         ∙ tag-8 s at (omega arith) (first-here s at (8 ∷ x ∷ p ∷ (pairBytes n ++ rest)) h))
 
+    -- A tag k, three slots and a length.
+    record ThreeAndLength (k x y z n : ℕ) : Type 0 where
+      inside : at + 6 ≤ length s
+      tag : getD s at 0 ≡ k
+      first : x ≡ getD s (at + 1) 0
+      second : y ≡ getD s (at + 2) 0
+      third : z ≡ getD s (at + 3) 0
+      sized : n ≡ pairAt s (at + 4)
+
+    three-and-length : (k x y z n : ℕ) → drop at s ≡ k ∷ x ∷ y ∷ z ∷ (pairBytes n ++ rest) → ThreeAndLength k x y z n
+    three-and-length k x y z n h =
+        let l = k ∷ x ∷ y ∷ z ∷ (pairBytes n ++ rest) in
+        let b = byte-here s at l h in
+        let i = length-here s at l h in
+        record {
+          inside = omega arith;
+          tag = first-here s at l h;
+          first = sym (b 1);
+          second = sym (b 2);
+          third = sym (b 3);
+          sized = pair-here at l h 4 n refl refl;
+        }
+
     tag-9-here : (x p t n : ℕ) → drop at s ≡ 9 ∷ x ∷ p ∷ t ∷ (pairBytes n ++ rest) → tagAt s at ≡ ContinuationWithHandler x p t n (at + 6)
     tag-9-here x p t n h =
-        let b = byte-here s at (9 ∷ x ∷ p ∷ t ∷ (pairBytes n ++ rest)) h in
-        let l = length-here s at (9 ∷ x ∷ p ∷ t ∷ (pairBytes n ++ rest)) h in
-        sym
-        (tag-9-in s at x p t n (omega arith) (sym (b 1)) (sym (b 2)) (sym (b 3)) (pair-here at (9 ∷ x ∷ p ∷ t ∷ (pairBytes n ++ rest)) h 4 n refl refl)
-        ∙ tag-9 s at (omega arith) (first-here s at (9 ∷ x ∷ p ∷ t ∷ (pairBytes n ++ rest)) h))
+        let f = three-and-length 9 x p t n h in
+        sym (tag-9-in s at x p t n (f .inside) (f .first) (f .second) (f .third) (f .sized) ∙ tag-9 s at (omega (arith, f .inside)) (f .tag))
+
+    tag-10-here : (x y z n : ℕ) → drop at s ≡ 10 ∷ x ∷ y ∷ z ∷ (pairBytes n ++ rest) → tagAt s at ≡ DifferenceOrRaise x y z n (at + 6)
+    tag-10-here x y z n h =
+        let f = three-and-length 10 x y z n h in
+        sym (tag-10-in s at x y z n (f .inside) (f .first) (f .second) (f .third) (f .sized) ∙ tag-10 s at (omega (arith, f .inside)) (f .tag))
 
   -- What stands behind an expression.
   past-expr : (at : ℕ) (e : Expr) (rest : List ℕ) → drop at s ≡ exprBytes e ++ rest → drop (at + size e) s ≡ rest
@@ -159,6 +184,13 @@ module _ (s : List ℕ) where
         expr-stands (at + 6) e (r ++ rest) (f .0) n,
         expr-stands (o + 2) c (exprBytes k ++ rest) (f .1 .0) d,
         expr-stands (o + 2 + size c) k rest (f .1 .1) (past-expr (o + 2) c (exprBytes k ++ rest) d),
+      )
+  expr-stands at (letDifferenceOrRaise x y z r e) rest f h =
+      let l = (exprBytes r ++ exprBytes e) ++ rest in
+      let n : drop (at + 6) s ≡ exprBytes r ++ (exprBytes e ++ rest) = next-here s at (10 ∷ x ∷ y ∷ z ∷ (pairBytes (size r) ++ l)) h 6 ∙ append-assoc (exprBytes r) (exprBytes e) rest in (
+        tag-10-here at l x y z (size r) h,
+        expr-stands (at + 6) r (exprBytes e ++ rest) (f .0) n,
+        expr-stands (at + 6 + size r) e rest (f .1) (past-expr (at + 6) r (exprBytes e ++ rest) n),
       )
 
   pub code-stands : (at : ℕ) (Q : Code) (rest : List ℕ) → All (λ D. ConstantsFit (D .body)) Q → drop at s ≡ joined targetBytes Q ++ rest → CodeAt s at Q

@@ -21,7 +21,7 @@ use Rattle.semantics.specs.ListLaws.{put-same, put-other}
 use Rattle.parsing.specs.Parser.{Verdict, accepted, orElse, refusedUnless}
 use Rattle.parsing.specs.VerdictLaws.{or-accepted, unless-accepted}
 use Rattle.target_slots.specs.Slots.{binds, reads, differ, bound, entryKinds}
-use Rattle.target_names.specs.Names.{function, arity, values}
+use Rattle.target_names.specs.Names.{function, arity, values, differenceNames}
 use Rattle.target_expressions.specs.Expressions.{slotsAt}
 use Rattle.target_expressions.specs.PartLaws.{impossible}
 use Rattle.target_file.specs.Check.{arities}
@@ -121,6 +121,17 @@ module _ {KS : Kinds} {ks : List ℕ} (l : Like KS ks) (k : Kind) (place x : ℕ
   pub reads-holds : IsBound 36 KS k x → reads ks (kindNumber k) place x ≡ accepted
   unfolding reads
   reads-holds h = rw (binds-holds place x (h .0), eq-eqb (getD ks x 0) (kindNumber k) (l .same x (h .0) ∙ ap kindNumber (h .1)))
+
+-- The names of tags 3 and 10.
+module _ {KS : Kinds} {ks : List ℕ} (l : Like KS ks) (at x y z : ℕ) where
+  pub difference-right : differenceNames ks at x y z ≡ accepted → (x < 36) × IsBound 36 KS wholeKind y × IsBound 36 KS wholeKind z
+  difference-right e =
+      let a = or-accepted (binds (at + 1) x) (orElse (reads ks 1 (at + 2) y) (reads ks 1 (at + 3) z)) e in
+      let b = or-accepted (reads ks 1 (at + 2) y) (reads ks 1 (at + 3) z) (a .1) in
+      (binds-right (at + 1) x (a .0), reads-right l wholeKind (at + 2) y (b .0), reads-right l wholeKind (at + 3) z (b .1))
+
+  pub difference-holds : x < 36 → IsBound 36 KS wholeKind y → IsBound 36 KS wholeKind z → differenceNames ks at x y z ≡ accepted
+  difference-holds a b c = or-holds (binds-holds (at + 1) x a) (or-holds (reads-holds l wholeKind (at + 2) y b) (reads-holds l wholeKind (at + 3) z c))
 
 module _ (place x t : ℕ) where
   pub differ-right : differ place x t ≡ accepted → x ≢ t

@@ -11,7 +11,7 @@ use Rattle.semantics.specs.Program.{FunctionNumber, Handler, Block, constant, c
 use Rattle.semantics.specs.WellFormed.{All}
 use Rattle.semantics.specs.Code.{Slot, Expr}
 use Rattle.semantics.specs.SlotRules.{KeepsSlotRules}
-use Rattle.semantics.specs.Translation.{slotOf, code, bindZeros, blockTarget, targets, number, translateFunction, translateFrom, translate}
+use Rattle.semantics.specs.Translation.{slotOf, code, raiseCode, bindZeros, blockTarget, targets, number, translateFunction, translateFrom, translate}
 use Rattle.semantics.specs.TranslationRules.{rules}
 use Rattle.semantics.specs.ListLaws.{all-append, all-mapped}
 use Rattle.target_file.specs.Writing.{writing, ConstantsFit, Nests, TargetInRange, InRange}
@@ -24,32 +24,38 @@ zero-fits : SFits w32 (pos 0)
 zero-fits = sfits-lit tt
 
 module _ (numbers : FunctionNumber → ℕ) (base v : ℕ) where
+  raise-fits : (h : Handler) → ConstantsFit (raiseCode base v h)
+  raise-fits zero = tt
+  raise-fits (suc l) = tt
+
+  raise-nests : (level : ℕ) (h : Handler) → Nests level (raiseCode base v h)
+  raise-nests level zero = tt
+  raise-nests level (suc l) = tt
+
   code-fits : (h : Handler) (b : Block) → BlockFits b → ConstantsFit (code numbers base v h b)
   unfolding code
   code-fits h (constant x i b) f = (f .0, code-fits h b (f .1))
   code-fits h (copy x y b) f = code-fits h b f
-  code-fits h (difference x y z b) f = code-fits h b f
+  code-fits h (difference x y z b) f = (raise-fits h, code-fits h b f)
   code-fits zero (call x g ys b) f = (tt, code-fits zero b f)
   code-fits (suc l) (call x g ys b) f = (tt, (tt, code-fits (suc l) b f))
   code-fits h (goto l) f = tt
   code-fits h (return x) f = tt
   code-fits h (branch y z l m) f = (tt, tt)
-  code-fits zero raise f = tt
-  code-fits (suc l) raise f = tt
+  code-fits h raise f = raise-fits h
 
-  -- A block nests one level: the rest of a call and its handler body are jumps.
+  -- A block nests one level: the rest of a call and its handler body are jumps, a raise part is a jump or tag 6.
   code-nests : (h : Handler) (b : Block) → Nests 0 (code numbers base v h b)
   unfolding code
   code-nests h (constant x i b) = code-nests h b
   code-nests h (copy x y b) = code-nests h b
-  code-nests h (difference x y z b) = code-nests h b
+  code-nests h (difference x y z b) = (omega arith, raise-nests 1 h, code-nests h b)
   code-nests zero (call x g ys b) = (omega arith, tt, code-nests zero b)
   code-nests (suc l) (call x g ys b) = (omega arith, tt, (omega arith, tt, code-nests (suc l) b))
   code-nests h (goto l) = tt
   code-nests h (return x) = tt
   code-nests h (branch y z l m) = (omega arith, tt, tt)
-  code-nests zero raise = tt
-  code-nests (suc l) raise = tt
+  code-nests h raise = raise-nests 0 h
 
 zeros-fit : (s : Slot) (n : ℕ) (e : Expr) → ConstantsFit e → ConstantsFit (bindZeros s n e)
 zeros-fit s zero e f = f

@@ -1,11 +1,11 @@
--- The writing of code as bytes (document 01, 'The translated file').
+-- The writing of code as bytes (document 01, 'The translated file'; document 02, Slip 2).
 use Prim.Native.Nat.{ℕ, _+_, _≤_, _<_}
 use mathlib.Core.List.{List, [], _∷_, _++_}
 use lib.ListN.{length}
 use mir.Syntax.{w32}
 use mir.Val.{SFits}
 use lib.IntN.{ℤ}
-use Rattle.semantics.specs.Code.{Slot, Expr, letConstant, letSlot, letDifference, jump, resume, handle, ifAtMost, letContinuation, letContinuationWithHandler, Target, Code}
+use Rattle.semantics.specs.Code.{Slot, Expr, letConstant, letSlot, letDifference, jump, resume, handle, ifAtMost, letContinuation, letContinuationWithHandler, letDifferenceOrRaise, Target, Code}
 use Rattle.semantics.specs.WellFormed.{All}
 use Rattle.parsing.specs.Parser.{joined}
 use Rattle.parsing.specs.Bytes.{pairBytes, valueBytes}
@@ -30,6 +30,7 @@ partsOf (handle h) = bytes (6 ∷ h ∷ []) (ends [])
 partsOf (ifAtMost y z e₁ e₂) = bytes (7 ∷ y ∷ z ∷ []) (nested (partsOf e₁) (partsOf e₂))
 partsOf (letContinuation x p e k) = bytes (8 ∷ x ∷ p ∷ []) (nested (partsOf e) (partsOf k))
 partsOf (letContinuationWithHandler x p t e h k) = bytes (9 ∷ x ∷ p ∷ t ∷ []) (nested (partsOf e) (nested (partsOf h) (partsOf k)))
+partsOf (letDifferenceOrRaise x y z r e) = bytes (10 ∷ x ∷ y ∷ z ∷ []) (nested (partsOf r) (partsOf e))
 
 -- How many bytes parts take.
 abbrev pub partsSize : Parts → ℕ
@@ -65,6 +66,7 @@ PartsFit (constant i r) = SFits w32 i × PartsFit r
 PartsFit (nested p r) = PartsFit p × PartsFit r
 
 -- "then-parts, rests of tags 8 and 9 and handler bodies nest at most 16 levels inside a function's body": parts at this level.
+-- A raise part "counts as a nested level".
 abbrev pub PartsNest : ℕ → Parts → Type 0
 PartsNest level (ends ss) = Unit {0}
 PartsNest level (bytes w r) = PartsNest level r

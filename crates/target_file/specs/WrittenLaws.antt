@@ -7,16 +7,16 @@ use lib.ListN.{length, getD, take, drop, length-drop, take-append-drop}
 use lib.Seq.{drop-drop, length-take-le}
 use mir.Syntax.{w32}
 use mir.Val.{SFits}
-use Rattle.semantics.specs.Code.{Expr, letConstant, letSlot, letDifference, jump, resume, handle, ifAtMost, letContinuation, letContinuationWithHandler, Code}
+use Rattle.semantics.specs.Code.{Expr, letConstant, letSlot, letDifference, jump, resume, handle, ifAtMost, letContinuation, letContinuationWithHandler, letDifferenceOrRaise, Code}
 use Rattle.parsing.specs.Parser.{joined}
 use Rattle.parsing.specs.Fields.{valueAt}
 use Rattle.parsing.specs.Bytes.{Bytes, pairBytes, valueBytes}
 use Rattle.parsing.specs.BytesLaws.{pair-back, value-bytes, value-fits}
 use Rattle.parsing.specs.BytesAtLaws.{BytesAt, bytes-at-none, bytes-at-join, bytes-at-byte, bytes-at-cons, span, bytes-at-span}
 use Rattle.target_tags.specs.declared.tag.Tag.{Tag}
-use Rattle.target_tags.specs.declared.tag.Tag.the-variants.{Constant, Copy, Difference, Jump, Resume, Handle, Branch, Continuation, ContinuationWithHandler, Refused}
+use Rattle.target_tags.specs.declared.tag.Tag.the-variants.{Constant, Copy, Difference, Jump, Resume, Handle, Branch, Continuation, ContinuationWithHandler, DifferenceOrRaise, Refused}
 use Rattle.target_tags.specs.Tag.{pairAt, tagAt}
-use Rattle.target_tags.specs.ViewLaws.{View, isConstant, isCopy, isDifference, isJump, isResume, isHandle, isBranch, isContinuation, isBoth, isRefused, seen}
+use Rattle.target_tags.specs.ViewLaws.{View, isConstant, isCopy, isDifference, isJump, isResume, isHandle, isBranch, isContinuation, isBoth, isDifferenceOrRaise, isRefused, seen}
 use Rattle.target_expressions.specs.Expressions.{slotsAt}
 use Rattle.target_file.specs.Writing.{size, exprBytes, targetBytes, ConstantsFit}
 use Rattle.target_file.specs.LoadedCode.{ExprAt}
@@ -36,6 +36,7 @@ NodeBytes s at (Handle h next) = BytesAt s at next (6 ∷ h ∷ [])
 NodeBytes s at (Branch y z n next) = BytesAt s at next (7 ∷ y ∷ z ∷ pairBytes n)
 NodeBytes s at (Continuation x p n next) = BytesAt s at next (8 ∷ x ∷ p ∷ pairBytes n)
 NodeBytes s at (ContinuationWithHandler x p t n next) = BytesAt s at next (9 ∷ x ∷ p ∷ t ∷ pairBytes n)
+NodeBytes s at (DifferenceOrRaise x y z n next) = BytesAt s at next (10 ∷ x ∷ y ∷ z ∷ pairBytes n)
 NodeBytes s at (Refused r) = Unit {0}
 
 module _ (s : List ℕ) (bytes : Bytes s) where
@@ -71,6 +72,12 @@ module _ (s : List ℕ) (bytes : Bytes s) where
       let p : at + 1 + 1 ≡ at + 2 = omega arith in
       subst (BytesAt s at (at + 2)) (pair-is at) (subst (λ (j : ℕ). BytesAt s at j (getD s at 0 ∷ getD s (at + 1) 0 ∷ [])) p (bytes-at-join s (bytes-at-byte s at (omega arith)) (bytes-at-byte s (at + 1) (omega arith))))
 
+  -- A tag, three slots and a length.
+  three-and-length : (at k : ℕ) → getD s at 0 ≡ k → at + 6 ≤ length s
+      → BytesAt s at (at + 6) (k ∷ getD s (at + 1) 0 ∷ getD s (at + 2) 0 ∷ getD s (at + 3) 0 ∷ pairBytes (pairAt s (at + 4)))
+  three-and-length at k e h =
+      subst (λ (l : List ℕ). BytesAt s at (at + 6) (k ∷ getD s (at + 1) 0 ∷ getD s (at + 2) 0 ∷ getD s (at + 3) 0 ∷ l)) (pair-behind at 4) (operands at k 5 e h)
+
   node-bytes-at : (at : ℕ) {t : Tag} → View s at t → NodeBytes s at t
   node-bytes-at at (isConstant e h) =
       (subst (λ (l : List ℕ). BytesAt s at (at + 6) (1 ∷ getD s (at + 1) 0 ∷ l)) (value-behind at) (operands at 1 5 e h), value-fits s bytes (at + 2))
@@ -83,8 +90,8 @@ module _ (s : List ℕ) (bytes : Bytes s) where
   node-bytes-at at (isHandle e h) = operands at 6 1 e h
   node-bytes-at at (isBranch e h) = subst (λ (l : List ℕ). BytesAt s at (at + 5) (7 ∷ getD s (at + 1) 0 ∷ getD s (at + 2) 0 ∷ l)) (pair-behind at 3) (operands at 7 4 e h)
   node-bytes-at at (isContinuation e h) = subst (λ (l : List ℕ). BytesAt s at (at + 5) (8 ∷ getD s (at + 1) 0 ∷ getD s (at + 2) 0 ∷ l)) (pair-behind at 3) (operands at 8 4 e h)
-  node-bytes-at at (isBoth e h) =
-      subst (λ (l : List ℕ). BytesAt s at (at + 6) (9 ∷ getD s (at + 1) 0 ∷ getD s (at + 2) 0 ∷ getD s (at + 3) 0 ∷ l)) (pair-behind at 4) (operands at 9 5 e h)
+  node-bytes-at at (isBoth e h) = three-and-length at 9 e h
+  node-bytes-at at (isDifferenceOrRaise e h) = three-and-length at 10 e h
   node-bytes-at at (isRefused r) = tt
 
   tag-bytes-at : (at : ℕ) (t : Tag) → tagAt s at ≡ t → NodeBytes s at t
@@ -131,6 +138,11 @@ module _ (s : List ℕ) (bytes : Bytes s) where
       let d = expr-bytes-at (o + 2) c (h .3) in
       let f = expr-bytes-at (o + 2 + size c) k (h .4) in
       (onward (omega arith) (bytes-at-join s a (bytes-at-join s (b .0) (bytes-at-join s l (bytes-at-join s (d .0) (f .0))))), (b .1, (d .1, f .1)))
+  expr-bytes-at at (letDifferenceOrRaise x y z r e) h =
+      let a = tag-bytes-at at (DifferenceOrRaise x y z (size r) (at + 6)) (h .0) in
+      let b = expr-bytes-at (at + 6) r (h .1) in
+      let c = expr-bytes-at (at + 6 + size r) e (h .2) in
+      (onward (omega arith) (bytes-at-join s a (bytes-at-join s (b .0) (c .0))), (b .1, c .1))
 
   -- Functions that stand one after the other are written so.
   pub code-bytes-at : (at : ℕ) (Q : Code) → CodeAt s at Q → BytesAt s at (at + codeSize Q) (joined targetBytes Q)

@@ -7,7 +7,7 @@ use lib.ListN.{length, getD}
 use Rattle.parsing.specs.Refusals.{missingFunction, calleeArity}
 use Rattle.parsing.specs.Parser.{Verdict, accepted, orElse, refusedUnless}
 use Rattle.target_tags.specs.declared.tag.Tag.{Tag}
-use Rattle.target_tags.specs.declared.tag.Tag.the-variants.{Constant, Copy, Difference, Jump, Resume, Handle, Branch, Continuation, ContinuationWithHandler, Refused}
+use Rattle.target_tags.specs.declared.tag.Tag.the-variants.{Constant, Copy, Difference, Jump, Resume, Handle, Branch, Continuation, ContinuationWithHandler, DifferenceOrRaise, Refused}
 use Rattle.target_slots.specs.Slots.{binds, reads, differ}
 
 -- "9 no such function", where the functions have these numbers of parameters.
@@ -23,6 +23,10 @@ abbrev pub values : List ℕ → List ℕ → ℕ → ℕ → Verdict
 values ks s at zero = accepted
 values ks s at (suc n) = orElse (reads ks 1 at (getD s at 0)) (values ks s (at + 1) n)
 
+-- The names of tags 3 and 10, in reading order.
+abbrev pub differenceNames : List ℕ → ℕ → ℕ → ℕ → ℕ → Verdict
+differenceNames ks at x y z = orElse (binds (at + 1) x) (orElse (reads ks 1 (at + 2) y) (reads ks 1 (at + 3) z))
+
 -- The names of a jump before its values, in reading order.
 unfoldable pub jumpNames : List ℕ → List ℕ → ℕ → ℕ → ℕ → ℕ → ℕ → Verdict
 jumpNames ps ks at g k h n =
@@ -37,13 +41,14 @@ continuationWithHandlerNames at x p t =
 unfoldable pub namesOf : List ℕ → List ℕ → List ℕ → ℕ → Tag → Verdict
 namesOf ps ks s at (Constant x i next) = binds (at + 1) x
 namesOf ps ks s at (Copy x y next) = orElse (binds (at + 1) x) (reads ks 1 (at + 2) y)
-namesOf ps ks s at (Difference x y z next) = orElse (binds (at + 1) x) (orElse (reads ks 1 (at + 2) y) (reads ks 1 (at + 3) z))
+namesOf ps ks s at (Difference x y z next) = differenceNames ks at x y z
 namesOf ps ks s at (Jump g k h n next) = orElse (jumpNames ps ks at g k h n) (values ks s (at + 6) n)
 namesOf ps ks s at (Resume k y next) = orElse (reads ks 2 (at + 1) k) (reads ks 1 (at + 2) y)
 namesOf ps ks s at (Handle h next) = reads ks 3 (at + 1) h
 namesOf ps ks s at (Branch y z n next) = orElse (reads ks 1 (at + 1) y) (reads ks 1 (at + 2) z)
 namesOf ps ks s at (Continuation x p n next) = orElse (binds (at + 1) x) (binds (at + 2) p)
 namesOf ps ks s at (ContinuationWithHandler x p t n next) = continuationWithHandlerNames at x p t
+namesOf ps ks s at (DifferenceOrRaise x y z n next) = differenceNames ks at x y z
 namesOf ps ks s at (Refused r) = accepted
 
 -- The names, if they are judged.

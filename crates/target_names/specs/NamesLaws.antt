@@ -1,19 +1,23 @@
 -- Laws of the names in a node, as the functions that judge them meet them.
 use Prim.Native.Nat.{ℕ, zero, suc, _+_, _-_, _≤_, _<_}
-use mathlib.Core.Path.{_≡_, refl}
-use mathlib.Core.List.{List}
+use mathlib.Core.Path.{_≡_, refl, subst}
+use mathlib.Core.List.{List, [], _∷_}
 use native.Mathlib.Omega.{arith}
+use denote.Enum.Declared.{tagOf}
+use types.Run.{OneOf, miss}
 use lib.ListN.{length, getD}
 use Rattle.parsing.specs.declared.Refusal.{Refusal}
 use Rattle.parsing.specs.declared.Checked.{Checked}
 use Rattle.parsing.specs.declared.Checked.the-variants.{Accepted, Refused}
 use Rattle.parsing.specs.Parser.{Verdict, accepted, refused, verdictOf}
+use Rattle.target_tags.proofs.tag.Tag.{the-type}
 use Rattle.target_tags.specs.declared.tag.Tag.{Tag}
 use Rattle.target_tags.specs.declared.tag.Tag.the-variants.{Jump}
 use Rattle.target_tags.specs.Tag.{tagAt}
-use Rattle.target_tags.specs.ViewLaws.{View, isConstant, isCopy, isDifference, isJump, isResume, isHandle, isBranch, isContinuation, isBoth, isRefused, seen}
+use Rattle.target_tags.specs.ViewLaws.{View, isConstant, isCopy, isDifference, isJump, isResume, isHandle, isBranch, isContinuation, isBoth, isDifferenceOrRaise, isRefused, seen}
 use Rattle.target_slots.specs.Slots.{reads}
-use Rattle.target_names.specs.Names.{values, namesOf}
+use Rattle.target_names.specs.Standing.{NoJump}
+use Rattle.target_names.specs.Names.{values}
 
 -- The first of several values, and the others.
 module _ (ks s : List ℕ) (at x : ℕ) (is : x ≡ getD s at 0) {c : Checked} (judged : verdictOf c ≡ reads ks 1 at x) where
@@ -31,8 +35,10 @@ pub values-none : (ks s : List ℕ) (at n : ℕ) → n ≤ 0 → accepted ≡ va
 values-none ks s at zero h = refl
 values-none ks s at (suc n) h = absurd (omega arith)
 
-pub names-by-tag : (ps ks s : List ℕ) (at : ℕ) {t u : Tag} {v : Verdict} → t ≡ u → v ≡ namesOf ps ks s at u → v ≡ namesOf ps ks s at t
-names-by-tag ps ks s at e f = rw e f
+-- A node that is no jump (the keys of the enum, from 0).
+pub no-jump : (t : Tag) → OneOf (0 ∷ 1 ∷ 2 ∷ 4 ∷ 5 ∷ 6 ∷ 7 ∷ 8 ∷ 9 ∷ 10 ∷ []) (tagOf the-type t) → NoJump t
+no-jump t w g k h n next e =
+    miss (0 ∷ 1 ∷ 2 ∷ 4 ∷ 5 ∷ 6 ∷ 7 ∷ 8 ∷ 9 ∷ 10 ∷ []) 3 tt (subst (λ (u : Tag). OneOf (0 ∷ 1 ∷ 2 ∷ 4 ∷ 5 ∷ 6 ∷ 7 ∷ 8 ∷ 9 ∷ 10 ∷ []) (tagOf the-type u)) e w)
 
 pub jump-fits : (s : List ℕ) (at g k h n next : ℕ) (t : Tag) → t ≡ tagAt s at → t ≡ Jump g k h n next → at + 6 + n ≤ length s
 jump-fits s at g k h n next t is e = go (seen s at t is) e
@@ -47,4 +53,5 @@ jump-fits s at g k h n next t is e = go (seen s at t is) e
     go (isBranch e h) w = let o : _≡_ {A = ℕ} 0 1 = cc in absurd (omega arith)
     go (isContinuation e h) w = let o : _≡_ {A = ℕ} 0 1 = cc in absurd (omega arith)
     go (isBoth e h) w = let o : _≡_ {A = ℕ} 0 1 = cc in absurd (omega arith)
+    go (isDifferenceOrRaise e h) w = let o : _≡_ {A = ℕ} 0 1 = cc in absurd (omega arith)
     go (isRefused r) w = let o : _≡_ {A = ℕ} 0 1 = cc in absurd (omega arith)

@@ -10,13 +10,14 @@ use target_slots::slots::reads_slot;
 use target_tags::tag::MAX_SLOTS;
 use target_tags::tag::Tag;
 ghost use mathlib.Core.Path.{_≡_};
+ghost use mathlib.Core.List.{List};
 ghost use lib.ListN.{length, getD};
-ghost use Prim.Native.Nat.{_+_, _≤_};
+ghost use Prim.Native.Nat.{ℕ, _+_, _≤_};
 ghost use Rattle.parsing.specs.Parser.{orElse, verdictOf};
 ghost use Rattle.target_tags.specs.Tag.{fileLimit};
 ghost use Rattle.target_slots.specs.Slots.{binds, reads};
-ghost use Rattle.target_names.specs.Standing.{Stands};
-ghost use Rattle.target_names.specs.Names.{function, arity, values, jumpNames, continuationWithHandlerNames, namesOf, judged};
+ghost use Rattle.target_names.specs.Standing.{Stands, NoJump};
+ghost use Rattle.target_names.specs.Names.{function, arity, values, differenceNames, jumpNames, continuationWithHandlerNames, namesOf, judged};
 
 // The function of a jump, among functions with these numbers of parameters.
 fn names_function(params: &[u8], number: usize, place: usize) -> Checked
@@ -74,7 +75,7 @@ fn names_copy(kinds: [u8; MAX_SLOTS], at: usize, slot: usize, from: usize) -> Ch
     or_else(binds_slot(slot, at + 1), reads_slot(kinds, 1, from, at + 2))
 }
 
-// The names of tag 3.
+// The names of tags 3 and 10, in reading order.
 fn names_difference(
     kinds: [u8; MAX_SLOTS],
     at: usize,
@@ -83,7 +84,7 @@ fn names_difference(
     right: usize,
 ) -> Checked
     requires { ⌜ at ≤ fileLimit ⌝ }
-    ensures { λ r. ⌜ verdictOf r ≡ orElse (binds (at + 1) slot) (orElse (reads kinds 1 (at + 2) left) (reads kinds 1 (at + 3) right)) ⌝ }
+    ensures { λ r. ⌜ verdictOf r ≡ differenceNames kinds at slot left right ⌝ }
 {
     let read = or_else(
         reads_slot(kinds, 1, left, at + 2),
@@ -160,10 +161,10 @@ fn names_continuation_with_handler(
     )
 }
 
-// The names of the node that stands at an offset.
-fn names_of(file: &[u8], params: &[u8], kinds: [u8; MAX_SLOTS], at: usize, tag: Tag) -> Checked
-    requires { ⌜ Stands (now file) at tag ⌝ }
-    ensures { λ r. ⌜ verdictOf r ≡ namesOf (now (params .entry)) kinds (now (file .entry)) at tag ⌝ }
+// The names of a node that is no jump.
+fn names_of_slots(kinds: [u8; MAX_SLOTS], at: usize, tag: Tag) -> Checked
+    requires { ⌜ (at ≤ fileLimit) × NoJump tag ⌝ }
+    ensures { λ r. ⌜ ((ps s : List ℕ) → verdictOf r ≡ namesOf ps kinds s at tag) ⌝ }
 {
     match tag {
         Tag::Constant { slot, .. } => binds_slot(slot, at + 1),
@@ -174,16 +175,7 @@ fn names_of(file: &[u8], params: &[u8], kinds: [u8; MAX_SLOTS], at: usize, tag: 
             right,
             ..
         } => names_difference(kinds, at, slot, left, right),
-        Tag::Jump {
-            function,
-            continuation,
-            handler,
-            count,
-            ..
-        } => or_else(
-            names_jump(params, kinds, at, function, continuation, handler, count),
-            reads_values(file, kinds, at + 6, count),
-        ),
+        Tag::Jump { .. } => Checked::Accepted,
         Tag::Resume {
             continuation,
             value,
@@ -202,7 +194,33 @@ fn names_of(file: &[u8], params: &[u8], kinds: [u8; MAX_SLOTS], at: usize, tag: 
             handler,
             ..
         } => names_continuation_with_handler(at, slot, parameter, handler),
+        Tag::DifferenceOrRaise {
+            slot,
+            left,
+            right,
+            ..
+        } => names_difference(kinds, at, slot, left, right),
         Tag::Refused(_) => Checked::Accepted,
+    }
+}
+
+// The names of the node that stands at an offset.
+fn names_of(file: &[u8], params: &[u8], kinds: [u8; MAX_SLOTS], at: usize, tag: Tag) -> Checked
+    requires { ⌜ Stands (now file) at tag ⌝ }
+    ensures { λ r. ⌜ verdictOf r ≡ namesOf (now (params .entry)) kinds (now (file .entry)) at tag ⌝ }
+{
+    match tag {
+        Tag::Jump {
+            function,
+            continuation,
+            handler,
+            count,
+            ..
+        } => or_else(
+            names_jump(params, kinds, at, function, continuation, handler, count),
+            reads_values(file, kinds, at + 6, count),
+        ),
+        _ => names_of_slots(kinds, at, tag),
     }
 }
 

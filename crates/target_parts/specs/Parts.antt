@@ -11,7 +11,7 @@ use Rattle.parsing.specs.Refusals.{endsEarly, outOfRange, wrongLength}
 use Rattle.parsing.specs.Parser.{refusal, Parsed, read, refuse, Parser, andThen, Verdict, orElse, refusedUnless}
 use Rattle.parsing.specs.Fields.{cut}
 use Rattle.target_tags.specs.declared.tag.Tag.{Tag}
-use Rattle.target_tags.specs.declared.tag.Tag.the-variants.{Constant, Copy, Difference, Jump, Resume, Handle, Branch, Continuation, ContinuationWithHandler, Refused}
+use Rattle.target_tags.specs.declared.tag.Tag.the-variants.{Constant, Copy, Difference, Jump, Resume, Handle, Branch, Continuation, ContinuationWithHandler, DifferenceOrRaise, Refused}
 use Rattle.target_tags.specs.Tag.{pairAt}
 use Rattle.target_parts.specs.declared.parts.After.{After}
 use Rattle.target_parts.specs.declared.parts.After.the-variants.{Onward, Bound, Ended, Halted}
@@ -50,6 +50,7 @@ fieldsEnd (Handle h next) = Past next
 fieldsEnd (Branch y z n next) = Past next
 fieldsEnd (Continuation x p n next) = Past next
 fieldsEnd (ContinuationWithHandler x p t n next) = Past next
+fieldsEnd (DifferenceOrRaise x y z n next) = Past next
 fieldsEnd (Refused r) = Stopped r
 
 -- What follows a node whose nested parts end at an offset: the node binds a slot, ends the expression, or neither.
@@ -63,6 +64,7 @@ followsAt (Handle h next) m = Ended m
 followsAt (Branch y z n next) m = Onward m
 followsAt (Continuation x p n next) m = Bound m p
 followsAt (ContinuationWithHandler x p t n next) m = Bound m p
+followsAt (DifferenceOrRaise x y z n next) m = Bound m x
 followsAt (Refused r) m = Halted r
 
 abbrev pub followsOf : Tag → Scan → After

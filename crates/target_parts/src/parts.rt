@@ -82,6 +82,7 @@ pub fn fields_end(node: Tag) -> Scan
         Tag::Branch { next, .. } => Scan::Past(next),
         Tag::Continuation { next, .. } => Scan::Past(next),
         Tag::ContinuationWithHandler { next, .. } => Scan::Past(next),
+        Tag::DifferenceOrRaise { next, .. } => Scan::Past(next),
         Tag::Refused(r) => Scan::Stopped(r),
     }
 }
@@ -106,6 +107,7 @@ fn follows_at(node: Tag, next: usize) -> After
             next,
             slot: parameter,
         },
+        Tag::DifferenceOrRaise { slot, .. } => After::Bound { next, slot },
         Tag::Refused(r) => After::Halted(r),
     }
 }

@@ -7,7 +7,7 @@ ghost use mathlib.Core.Path.{_≡_};
 ghost use lib.ListN.{length};
 ghost use Prim.Native.Nat.{_+_, _*_, _<_};
 ghost use Rattle.parsing.specs.Fields.{cut};
-ghost use Rattle.target_tags.specs.Tag.{tagAt, constantAt, copyAt, differenceAt, jumpAt, resumeAt, handleAt, branchAt, continuationAt, continuationWithHandlerAt};
+ghost use Rattle.target_tags.specs.Tag.{tagAt, constantAt, copyAt, differenceAt, jumpAt, resumeAt, handleAt, branchAt, continuationAt, continuationWithHandlerAt, differenceOrRaiseAt};
 
 // "Slots are 0 to 35."
 pub const MAX_SLOTS: usize = 36;
@@ -68,6 +68,13 @@ pub enum Tag {
         slot: usize,
         parameter: usize,
         handler: usize,
+        size: usize,
+        next: usize,
+    },
+    DifferenceOrRaise {
+        slot: usize,
+        left: usize,
+        right: usize,
         size: usize,
         next: usize,
     },
@@ -246,6 +253,28 @@ fn continuation_with_handler_at(file: &[u8], at: usize) -> Tag
     }
 }
 
+fn difference_or_raise_at(file: &[u8], at: usize) -> Tag
+    requires { ⌜ at < length (now file) ⌝ }
+    ensures { λ r. ⌜ r ≡ differenceOrRaiseAt (now (file .entry)) at ⌝ }
+{
+    let next = at + 6;
+    if file.len() < next {
+        return cut(file);
+    }
+    let slot = byte_number(file[at + 1]);
+    let left = byte_number(file[at + 2]);
+    let right = byte_number(file[at + 3]);
+    let field = at + 4;
+    let size = pair(file[field], file[field + 1]);
+    Tag::DifferenceOrRaise {
+        slot,
+        left,
+        right,
+        size,
+        next,
+    }
+}
+
 // The node at an offset, by its tag.
 pub fn tag_at(file: &[u8], at: usize) -> Tag
     ensures { λ r. ⌜ r ≡ tagAt (now (file .entry)) at ⌝ }
@@ -263,6 +292,7 @@ pub fn tag_at(file: &[u8], at: usize) -> Tag
         7 => branch_at(file, at),
         8 => continuation_at(file, at),
         9 => continuation_with_handler_at(file, at),
+        10 => difference_or_raise_at(file, at),
         _ => Tag::Refused(Refusal {
             number: refusals::UNKNOWN,
             place: at,

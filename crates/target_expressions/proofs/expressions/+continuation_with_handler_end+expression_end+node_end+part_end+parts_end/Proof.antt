@@ -6,8 +6,9 @@ use borrow.Author.Needs.{needs}
 use Rattle.parsing.specs.Parser.{pastOf}
 use Rattle.target_parts.specs.PartsLaws.{level-accepted}
 use Rattle.target_expressions.specs.Expressions.{expression}
+use Rattle.target_expressions.specs.Ends.{partsEnd}
 use Rattle.target_expressions.specs.ExpressionLaws.{node-fields}
-use Rattle.target_expressions.specs.EndLaws.{part-refused, part-in, part-past, rest-stopped, handler-outside, handler-in, node-right, node-wrong, expression-onward, expression-bound, expression-ended, expression-halted, onward-moves, branch-on, continuation-on, tag-9-on, no-parts}
+use Rattle.target_expressions.specs.EndLaws.{part-refused, part-in, part-past, rest-stopped, handler-outside, handler-in, node-right, node-wrong, expression-onward, expression-bound, expression-ended, expression-halted, onward-moves, parts-by-tag, continuation-on, no-parts}
 use borrow.Fn.Kinds.{In}
 use borrow.Fn.PlainCycle.{Measures, is, falls, and}
 use Rattle.target_expressions.proofs.expressions.continuation_with_handler_end.Reads as continuation-with-handler-end
@@ -399,11 +400,27 @@ parts-end-continuation-with-handler-end-requires t c κs =
     let f = node-fields _ _ _ (sym (c .before .node3 .given .1) ∙ entry .pre .1 .1 .is) in
     (omega (arith, q), (entry .pre .1 .0, (f .forward, f .inside)))
 
+parts-end-enum-known-node-4 : (t : ℕ) → parts-end-lts.Need-enum-known-node-4 (parts-end-claims t) (parts-end-at t) parts-end.Post
+parts-end-enum-known-node-4 t c = search needs
+
+parts-end-add-part-end-3 : (t : ℕ) → parts-end-lts.Need-add-part-end-3 (parts-end-claims t) (parts-end-at t) parts-end.Post
+parts-end-add-part-end-3 t c =
+    let entry = c .before .before .before .before .before in
+    let p = entry .pre .1 .1 .small in omega arith
+
+parts-end-part-end-requires-3 : (t : ℕ) → parts-end-lts.Need-part-end-requires-3 (parts-end-claims t) (parts-end-at t) parts-end.Post
+parts-end-part-end-requires-3 t c κs =
+    let entry = c .before .before .before .before .before in
+    let q = entry .pre .0 in
+    let f = node-fields _ _ _ (sym (c .before .node4 .given .1) ∙ entry .pre .1 .1 .is) in
+    (omega (arith, q, f .here, f .forward, f .inside), entry .pre .1 .0)
+
 parts-end-fields-end-requires : (t : ℕ) → parts-end-lts.Need-fields-end-requires (parts-end-claims t) (parts-end-at t) parts-end.Post
 parts-end-fields-end-requires t c κs = tt
 
 parts-end-returns : (t : ℕ) → parts-end-lts.Need-returns (parts-end-claims t) (parts-end-at t) parts-end.Post
-parts-end-returns t c = branch-on _ _ _ _ _ _ (c .before .before .node .given .1) (c .part-end .ensures)
+unfolding partsEnd
+parts-end-returns t c = parts-by-tag _ _ _ _ _ _ (c .before .before .node .given .1) (c .part-end .ensures)
 
 parts-end-returns-2 : (t : ℕ) → parts-end-lts.Need-returns-2 (parts-end-claims t) (parts-end-at t) parts-end.Post
 parts-end-returns-2 t c =
@@ -412,10 +429,15 @@ parts-end-returns-2 t c =
     continuation-on _ _ _ _ _ _ _ (at-node2 .node2 .given .1) (at-bind .bind .ensures) (c .part-end2 .ensures)
 
 parts-end-returns-3 : (t : ℕ) → parts-end-lts.Need-returns-3 (parts-end-claims t) (parts-end-at t) parts-end.Post
-parts-end-returns-3 t c = tag-9-on _ _ _ _ _ _ (c .before .before .node3 .given .1) (c .continuation-with-handler-end .ensures)
+unfolding partsEnd
+parts-end-returns-3 t c = parts-by-tag _ _ _ _ _ _ (c .before .before .node3 .given .1) (c .continuation-with-handler-end .ensures)
 
 parts-end-returns-4 : (t : ℕ) → parts-end-lts.Need-returns-4 (parts-end-claims t) (parts-end-at t) parts-end.Post
-parts-end-returns-4 t c = c .fields-end .ensures ∙ no-parts _ _ _ _ _ _ _ (c .before .match .keys4)
+unfolding partsEnd
+parts-end-returns-4 t c = parts-by-tag _ _ _ _ _ _ (c .before .before .node4 .given .1) (c .part-end3 .ensures)
+
+parts-end-returns-5 : (t : ℕ) → parts-end-lts.Need-returns-5 (parts-end-claims t) (parts-end-at t) parts-end.Post
+parts-end-returns-5 t c = c .fields-end .ensures ∙ no-parts _ _ _ _ _ _ _ (c .before .match .keys5)
 
 pub +continuation-with-handler-end+expression-end+node-end+part-end+parts-end-spec :
     {M : Type 1} → statement M
@@ -495,8 +517,12 @@ pub +continuation-with-handler-end+expression-end+node-end+part-end+parts-end-sp
     (parts-end-part-end-requires-2 t)
     (parts-end-enum-known-node-3 t)
     (parts-end-continuation-with-handler-end-requires t)
+    (parts-end-enum-known-node-4 t)
+    (parts-end-add-part-end-3 t)
+    (parts-end-part-end-requires-3 t)
     (parts-end-fields-end-requires t)
     (parts-end-returns t)
     (parts-end-returns-2 t)
     (parts-end-returns-3 t)
     (parts-end-returns-4 t)
+    (parts-end-returns-5 t)

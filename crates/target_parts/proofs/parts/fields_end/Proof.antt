@@ -34,6 +34,9 @@ enum-known-node-9 c = search needs
 enum-known-node-10 : tie.Need-enum-known-node-10
 enum-known-node-10 c = search needs
 
+enum-known-node-11 : tie.Need-enum-known-node-11
+enum-known-node-11 c = search needs
+
 returns : tie.Need-returns
 unfolding fieldsEnd
 returns c = sym (ap fieldsEnd (c .before .node .given .1))
@@ -74,6 +77,10 @@ returns-10 : tie.Need-returns-10
 unfolding fieldsEnd
 returns-10 c = sym (ap fieldsEnd (c .before .node10 .given .1))
 
+returns-11 : tie.Need-returns-11
+unfolding fieldsEnd
+returns-11 c = sym (ap fieldsEnd (c .before .node11 .given .1))
+
 pub fields-end-spec : {M : Type 1} → statement M
 fields-end-spec =
     tie.close
@@ -88,6 +95,7 @@ fields-end-spec =
     enum-known-node-8
     enum-known-node-9
     enum-known-node-10
+    enum-known-node-11
     returns
     returns-2
     returns-3
@@ -97,4 +105,5 @@ fields-end-spec =
     returns-7
     returns-8
     returns-9
-    returns-10)
+    returns-10
+    returns-11)

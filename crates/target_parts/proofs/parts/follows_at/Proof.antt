@@ -35,6 +35,9 @@ enum-known-node-5 c = search needs
 enum-known-node-6 : tie.Need-enum-known-node-6
 enum-known-node-6 c = search needs
 
+enum-known-node-7 : tie.Need-enum-known-node-7
+enum-known-node-7 c = search needs
+
 returns : tie.Need-returns
 unfolding followsAt
 returns c = follows-by-tag _ (c .before .node .given .1) refl
@@ -75,6 +78,10 @@ returns-10 : tie.Need-returns-10
 unfolding followsAt
 returns-10 c = follows-by-tag _ (c .before .node6 .given .1) refl
 
+returns-11 : tie.Need-returns-11
+unfolding followsAt
+returns-11 c = follows-by-tag _ (c .before .node7 .given .1) refl
+
 pub follows-at-spec : {M : Type 1} → statement M
 follows-at-spec =
     tie.close
@@ -89,6 +96,7 @@ follows-at-spec =
     enum-known-node-4
     enum-known-node-5
     enum-known-node-6
+    enum-known-node-7
     returns
     returns-2
     returns-3
@@ -98,4 +106,5 @@ follows-at-spec =
     returns-7
     returns-8
     returns-9
-    returns-10)
+    returns-10
+    returns-11)

@@ -1,4 +1,4 @@
-use Rattle.target_tags.specs.TagLaws.{tag-past, tag-unknown, tag-1, tag-2, tag-3, tag-4, tag-5, tag-6, tag-7, tag-8, tag-9}
+use Rattle.target_tags.specs.TagLaws.{tag-past, tag-unknown, tag-1, tag-2, tag-3, tag-4, tag-5, tag-6, tag-7, tag-8, tag-9, tag-10}
 use native.Mathlib.Omega.{arith}
 use mathlib.Core.Path.{_∙_}
 use borrow.Author.Needs.{needs}
@@ -53,6 +53,9 @@ continuation-at-requires c κs = search needs
 continuation-with-handler-at-requires : tie.Need-continuation-with-handler-at-requires
 continuation-with-handler-at-requires c κs = search needs
 
+difference-or-raise-at-requires : tie.Need-difference-or-raise-at-requires
+difference-or-raise-at-requires c κs = search needs
+
 returns-2 : tie.Need-returns-2
 returns-2 c = c .constant-at .ensures ∙ tag-1 _ _ (omega arith) (c .before .match .keys1)
 
@@ -81,9 +84,12 @@ returns-10 : tie.Need-returns-10
 returns-10 c = c .continuation-with-handler-at .ensures ∙ tag-9 _ _ (omega arith) (c .before .match .keys9)
 
 returns-11 : tie.Need-returns-11
-returns-11 c =
-    let r = c .match .rest in tag-unknown _ _ (omega arith) (r .0 .0 .0 .0 .0 .0 .0 .0 .1) (r .0 .0 .0 .0 .0 .0 .0 .1) (r .0 .0 .0 .0 .0 .0 .1) (r .0 .0 .0 .0 .0 .1)
-    (r .0 .0 .0 .0 .1) (r .0 .0 .0 .1) (r .0 .0 .1) (r .0 .1) (r .1)
+returns-11 c = c .difference-or-raise-at .ensures ∙ tag-10 _ _ (omega arith) (c .before .match .keys10)
+
+returns-12 : tie.Need-returns-12
+returns-12 c =
+    let r = c .match .rest in tag-unknown _ _ (omega arith) (r .0 .0 .0 .0 .0 .0 .0 .0 .0 .1) (r .0 .0 .0 .0 .0 .0 .0 .0 .1) (r .0 .0 .0 .0 .0 .0 .0 .1) (r .0 .0 .0 .0 .0 .0 .1)
+    (r .0 .0 .0 .0 .0 .1) (r .0 .0 .0 .0 .1) (r .0 .0 .0 .1) (r .0 .0 .1) (r .0 .1) (r .1)
 
 pub tag-at-spec : {M : Type 1} → statement M
 tag-at-spec =
@@ -101,6 +107,7 @@ tag-at-spec =
     branch-at-requires
     continuation-at-requires
     continuation-with-handler-at-requires
+    difference-or-raise-at-requires
     returns-2
     returns-3
     returns-4
@@ -110,4 +117,5 @@ tag-at-spec =
     returns-8
     returns-9
     returns-10
-    returns-11)
+    returns-11
+    returns-12)
