@@ -67,7 +67,7 @@ fn put_operation(
         }
         3 => {
             let x = difference_fields(file, at);
-            jumps::put_difference(out, o, x.target, x.left, x.right)
+            jumps::put_difference(out, o, base, v, h, x.target, x.left, x.right)
         }
         4 => {
             let x = call_fields(file, at);

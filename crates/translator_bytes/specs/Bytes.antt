@@ -1,4 +1,4 @@
--- The bytes of the forms that a block's operations become (document 01, 'The translated file'), as they are written one behind the other.
+-- The bytes of the forms that a block's operations become (document 01, 'The translated file', and document 02, Slip 2), as they are written one behind the other.
 use Prim.Native.Nat.{ℕ, zero, suc, _+_}
 use mathlib.Core.Bool.{cond}
 use mathlib.Core.List.{List, [], _∷_, _++_, map}
@@ -40,6 +40,14 @@ branchBytes base v y z l m =
 unfoldable pub raiseBytes : ℕ → ℕ → ℕ → List ℕ
 raiseBytes base v h = cond (eqb h 0) (6 ∷ 1 ∷ []) (labelJump base v h)
 
+unfoldable pub raiseSize : ℕ → ℕ → ℕ
+raiseSize v h = cond (eqb h 0) 2 (6 + v)
+
+-- A difference, 10, with what a raise becomes there; the rest follows.
+unfoldable pub differenceBytes : ℕ → ℕ → ℕ → ℕ → ℕ → ℕ → List ℕ
+differenceBytes base v h x y z =
+    (10 ∷ (x + 2) ∷ (y + 2) ∷ (z + 2) ∷ []) ++ (pairBytes (raiseSize v h) ++ raiseBytes base v h)
+
 unfoldable pub callBytes : ℕ → ℕ → ℕ → ℕ → ℕ → ℕ → List ℕ → List ℕ
 callBytes base v h x g n ys = cond (eqb h 0) (plainCall v x g n ys) (guardedCall base v h x g n ys)
 
@@ -56,7 +64,7 @@ tabled ns g = getD ns g 0
 abbrev pub operationBytes : (ℕ → ℕ) → ℕ → ℕ → ℕ → List ℕ → ℕ → Operation → List ℕ
 operationBytes numbers base v h s at (Constant x i next) = (1 ∷ (x + 2) ∷ []) ++ valueBytes i
 operationBytes numbers base v h s at (Copy x y next) = 2 ∷ (x + 2) ∷ (y + 2) ∷ []
-operationBytes numbers base v h s at (Difference x y z next) = 3 ∷ (x + 2) ∷ (y + 2) ∷ (z + 2) ∷ []
+operationBytes numbers base v h s at (Difference x y z next) = differenceBytes base v h x y z
 operationBytes numbers base v h s at (Call x g n next) = callBytes base v h x (numbers g) n (argumentsAt s at n)
 operationBytes numbers base v h s at (Goto l next) = labelJump base v l
 operationBytes numbers base v h s at (Return x next) = 5 ∷ 0 ∷ (x + 2) ∷ []
@@ -68,13 +76,10 @@ operationBytes numbers base v h s at (Refused r) = []
 unfoldable pub callSize : ℕ → ℕ → ℕ → ℕ
 callSize v h n = cond (eqb h 0) (5 + (6 + n)) (8 + ((6 + n) + (6 + v)))
 
-unfoldable pub raiseSize : ℕ → ℕ → ℕ
-raiseSize v h = cond (eqb h 0) 2 (6 + v)
-
 abbrev pub operationSize : ℕ → ℕ → Operation → ℕ
 operationSize v h (Constant x i next) = 6
 operationSize v h (Copy x y next) = 3
-operationSize v h (Difference x y z next) = 4
+operationSize v h (Difference x y z next) = 6 + raiseSize v h
 operationSize v h (Call x g n next) = callSize v h n
 operationSize v h (Goto l next) = 6 + v
 operationSize v h (Return x next) = 3

@@ -16,7 +16,7 @@ use Rattle.procedure_fields.specs.Number.{countOf}
 use Rattle.procedure_fields.specs.NumberLaws.{argument-in-range}
 use Rattle.translator_bytes.specs.Writes.{Room, Wrote, CallStands}
 use Rattle.translator_bytes.specs.WriteLaws.{room-front, room-back, wrote-both, Rest, rest-none, rest-as, rest-more, rest-done, arguments-more}
-use Rattle.translator_bytes.specs.Bytes.{labelJump, callJump, plainCall, guardedCall, branchBytes, raiseBytes, raiseSize, callBytes}
+use Rattle.translator_bytes.specs.Bytes.{labelJump, callJump, plainCall, guardedCall, branchBytes, raiseBytes, raiseSize, differenceBytes, callBytes}
 
 -- A jump's length, where the code has computed it.
 pub pair-as : {o j n r : ℕ} {d d′ : List ℕ} → j ≡ n → Wrote o (pairBytes j) d r d′ → Wrote o (pairBytes n) d r d′
@@ -161,6 +161,32 @@ module _ (base v y z l m : ℕ) {t u o j : ℕ} {d : List ℕ} (et : t ≡ y + 2
             (wrote-both (7 ∷ t ∷ u ∷ []) (pairBytes (6 + v) ++ (labelJump base v l ++ labelJump base v m)) entire W
             (wrote-both (pairBytes (6 + v)) (labelJump base v l ++ labelJump base v m) lengthRoom (pair-as e X)
             (wrote-both (labelJump base v l) (labelJump base v m) tailRoom Y Q)))
+
+module _ (base v h x y z : ℕ) {t u w o j : ℕ} {d : List ℕ} (et : t ≡ x + 2) (eu : u ≡ y + 2) (ew : w ≡ z + 2) (e : j ≡ raiseSize v h) (R : Room o (differenceBytes base v h x y z) d) where
+  full : Room o ((10 ∷ t ∷ u ∷ w ∷ []) ++ (pairBytes (raiseSize v h) ++ raiseBytes base v h)) d
+  unfolding differenceBytes
+  full = rw (et, eu, ew) R
+
+  pub difference-room : Room o (10 ∷ t ∷ u ∷ w ∷ []) d
+  difference-room = room-front (10 ∷ t ∷ u ∷ w ∷ []) (pairBytes (raiseSize v h) ++ raiseBytes base v h) full
+
+  module _ {a : ℕ} {d₁ : List ℕ} (W : Wrote o (10 ∷ t ∷ u ∷ w ∷ []) d a d₁) where
+    partRoom : Room a (pairBytes (raiseSize v h) ++ raiseBytes base v h) d₁
+    partRoom = room-back (10 ∷ t ∷ u ∷ w ∷ []) (pairBytes (raiseSize v h) ++ raiseBytes base v h) full W
+
+    pub difference-pair-room : Room a (pairBytes j) d₁
+    difference-pair-room = pair-room e (room-front (pairBytes (raiseSize v h)) (raiseBytes base v h) partRoom)
+
+    module _ {b : ℕ} {d₂ : List ℕ} (X : Wrote a (pairBytes j) d₁ b d₂) where
+      pub difference-raise-room : Room b (raiseBytes base v h) d₂
+      difference-raise-room = room-back (pairBytes (raiseSize v h)) (raiseBytes base v h) partRoom (pair-as e X)
+
+      pub difference-wrote : {r : ℕ} {d₃ : List ℕ} → Wrote b (raiseBytes base v h) d₂ r d₃ → Wrote o (differenceBytes base v h x y z) d r d₃
+      unfolding differenceBytes
+      difference-wrote Q =
+          rw (← et, ← eu, ← ew)
+          (wrote-both (10 ∷ t ∷ u ∷ w ∷ []) (pairBytes (raiseSize v h) ++ raiseBytes base v h) full W
+          (wrote-both (pairBytes (raiseSize v h)) (raiseBytes base v h) partRoom (pair-as e X) Q))
 
 -- By the handler in force.
 module _ (base v h x g n : ℕ) (ys : List ℕ) where

@@ -10,7 +10,7 @@ ghost use Rattle.parsing.specs.Bytes.{valueBytes};
 ghost use Rattle.procedure_operations.specs.Numbers.{maxVariables};
 ghost use Rattle.procedure_operations.specs.Operation.{argumentsAt};
 ghost use Rattle.translator_bytes.specs.Writes.{Room, Wrote, CallStands};
-ghost use Rattle.translator_bytes.specs.Bytes.{jumpHead, labelJump, callJump, plainCall, guardedCall, branchBytes, raiseBytes, raiseSize, callBytes};
+ghost use Rattle.translator_bytes.specs.Bytes.{jumpHead, labelJump, callJump, plainCall, guardedCall, branchBytes, raiseBytes, raiseSize, differenceBytes, callBytes};
 
 // The length of a jump with 0 to 32 values.
 const LENGTHS: [usize; 33] = [
@@ -198,7 +198,7 @@ pub fn put_branch(
 // How many bytes a raise becomes, under the handler in force.
 pub fn raise_size(v: u8, h: u8) -> usize
     requires { ⌜ v ≤ maxVariables ⌝ }
-    ensures { λ r. ⌜ (r ≡ raiseSize v h) × (r ≤ 128) ⌝ }
+    ensures { λ r. ⌜ (r ≡ raiseSize v h) × (r ≤ 6 + maxVariables) ⌝ }
 {
     let jump = jump_size(v as usize);
     if h == 0 { 2 } else { jump }
@@ -239,22 +239,28 @@ pub fn put_copy(out: &mut [u8], o: usize, x: VariableNumber, y: VariableNumber) 
     bytes::put_three(out, o, 2, target, from)
 }
 
-// 3 difference
+// 3 difference, under the handler in force: its part is what a raise becomes there.
 pub fn put_difference(
     out: &mut [u8],
     o: usize,
+    base: usize,
+    v: u8,
+    h: u8,
     x: VariableNumber,
     y: VariableNumber,
     z: VariableNumber,
 ) -> usize
-    requires { ⌜ (x .0 < maxVariables) × (y .0 < maxVariables) × (z .0 < maxVariables) ⌝ }
-    requires { ⌜ Room o (3 ∷ (x .0 + 2) ∷ (y .0 + 2) ∷ (z .0 + 2) ∷ []) (now out) ⌝ }
-    ensures { λ r. ⌜ Wrote o (3 ∷ (x .0 + 2) ∷ (y .0 + 2) ∷ (z .0 + 2) ∷ []) (now (out .entry)) r (now (out .exit)) ⌝ }
+    requires { ⌜ (base ≤ 2048) × (v ≤ maxVariables) × (x .0 < maxVariables) × (y .0 < maxVariables) × (z .0 < maxVariables) ⌝ }
+    requires { ⌜ Room o (differenceBytes base v h (x .0) (y .0) (z .0)) (now out) ⌝ }
+    ensures { λ r. ⌜ Wrote o (differenceBytes base v h (x .0) (y .0) (z .0)) (now (out .entry)) r (now (out .exit)) ⌝ }
 {
     let target = bytes::slot_of(x);
     let left = bytes::slot_of(y);
     let right = bytes::slot_of(z);
-    bytes::put_four(out, o, 3, target, left, right)
+    let size = raise_size(v, h);
+    let a = bytes::put_four(out, o, 10, target, left, right);
+    let b = bytes::put_pair(out, a, size);
+    put_raise(out, b, base, v, h)
 }
 
 // 6 return

@@ -7,7 +7,7 @@ use lib.ListN.{length}
 use Rattle.parsing.specs.Bytes.{pairBytes, valueBytes}
 use Rattle.semantics.specs.Program.{Block, call, Program, variables, functionOf}
 use Rattle.semantics.specs.WellFormed.{WellFormedBlock}
-use Rattle.semantics.specs.Code.{jump, ifAtMost}
+use Rattle.semantics.specs.Code.{Expr, jump, ifAtMost, letDifferenceOrRaise}
 use Rattle.semantics.specs.Translation.{slotOf, slotsFrom, toLabel, raiseCode, code, number}
 use Rattle.procedure_operations.specs.declared.operation.Operation.{Operation}
 use Rattle.procedure_operations.specs.declared.operation.Operation.the-variants.{Constant, Copy, Difference, Call, Goto, Return, Branch, Raise, Refused}
@@ -18,11 +18,11 @@ use Rattle.procedure_layout.specs.Layout.{argumentsAt}
 use Rattle.procedure_layout.specs.Rest.{restFrom, restAt}
 use Rattle.procedure_layout.specs.After.{afterOf}
 use Rattle.procedure_file.specs.Check.{programOf}
-use Rattle.target_file.specs.Writing.{exprBytes}
-use Rattle.translator_bytes.specs.Bytes.{jumpHead, labelJump, callJump, plainCall, guardedCall, branchBytes, raiseBytes, callBytes, operationBytes, operationSize}
+use Rattle.target_file.specs.Writing.{size, exprBytes}
+use Rattle.translator_bytes.specs.Bytes.{jumpHead, labelJump, callJump, plainCall, guardedCall, branchBytes, raiseBytes, raiseSize, differenceBytes, callBytes, operationBytes, operationSize}
 use Rattle.translator_sizes.specs.Parts.{bodyAt, bytesAt}
 use Rattle.translator_sizes.specs.Standing.{OperationStands, CountInTable}
-use Rattle.translator_sizes.specs.SizeLaws.{guarded-test, length-slots, label-size, called-size, branch-size, raise-size}
+use Rattle.translator_sizes.specs.SizeLaws.{guarded-test, length-slots, label-size, called-size, branch-size, raise-size, difference-size}
 use lib.ListN.{length-map}
 
 -- What a call's callee and arguments are; no operation is a refusal.
@@ -92,7 +92,7 @@ pub operation-size : (ns : ℕ → ℕ) (base v h : ℕ) (s : List ℕ) (at : �
     → length (operationBytes ns base v h s at o) ≡ operationSize v h o
 operation-size ns base v h s at (Constant x i next) f = refl
 operation-size ns base v h s at (Copy x y next) f = refl
-operation-size ns base v h s at (Difference x y z next) f = refl
+operation-size ns base v h s at (Difference x y z next) f = difference-size base v h x y z
 operation-size ns base v h s at (Call x g n next) f = called-size base v h x (ns g) n (argumentsAt s at n) (f .2)
 operation-size ns base v h s at (Goto l next) f = label-size base v l
 operation-size ns base v h s at (Return x next) f = refl
@@ -125,6 +125,15 @@ raise-is : (base v h : ℕ) → exprBytes (raiseCode base v h) ≡ raiseBytes ba
 unfolding raiseBytes
 raise-is base v zero = refl
 raise-is base v (suc l) = rw (guarded-test l) (label-is base v (suc l))
+
+raise-sized : (base v h : ℕ) → size (raiseCode base v h) ≡ raiseSize v h
+unfolding raiseSize
+raise-sized base v zero = refl
+raise-sized base v (suc l) = rw (guarded-test l) (ap (λ (n : ℕ). 6 + n) (length-slots 2 v))
+
+difference-is : (base v h x y z : ℕ) (e : Expr) → exprBytes (letDifferenceOrRaise (slotOf x) (slotOf y) (slotOf z) (raiseCode base v h) e) ≡ differenceBytes base v h x y z ++ exprBytes e
+unfolding differenceBytes
+difference-is base v h x y z e = rw (two x, two y, two z, ← raise-is base v h, raise-sized base v h)
 
 branch-is : (base v y z l m : ℕ) → exprBytes (ifAtMost (slotOf y) (slotOf z) (toLabel base v l) (toLabel base v m)) ≡ branchBytes base v y z l m
 unfolding branchBytes
@@ -159,7 +168,7 @@ module _ (ns : ℕ → ℕ) (base v : ℕ) where
   unfolding code callBytes
   split h s at (Constant x i next) f = ap (λ (k : ℕ). 1 ∷ k ∷ (valueBytes i ++ exprBytes (code ns base v h (restAt s next)))) (sym (two x))
   split h s at (Copy x y next) f = rw (two x, two y)
-  split h s at (Difference x y z next) f = rw (two x, two y, two z)
+  split h s at (Difference x y z next) f = difference-is base v h x y z (code ns base v h (restAt s next))
   split zero s at (Call x g n next) f = plain-is x g n (argumentsAt s at n) (restAt s next) (f .2)
   split (suc l) s at (Call x g n next) f = rw (guarded-test l) (guarded-is l x g n (argumentsAt s at n) (restAt s next) (f .2))
   split h s at (Goto l next) f = label-is base v l ∙ sym (append-nil (labelJump base v l))

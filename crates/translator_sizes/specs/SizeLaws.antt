@@ -9,7 +9,7 @@ use lib.Dec.{eqb}
 use lib.ListN.{length, length-append, length-map}
 use Rattle.parsing.specs.Bytes.{pairBytes}
 use Rattle.semantics.specs.Translation.{slotOf, slotsFrom}
-use Rattle.translator_bytes.specs.Bytes.{jumpHead, labelJump, callJump, plainCall, guardedCall, branchBytes, raiseBytes, callBytes, callSize, raiseSize, zeros}
+use Rattle.translator_bytes.specs.Bytes.{jumpHead, labelJump, callJump, plainCall, guardedCall, branchBytes, raiseBytes, differenceBytes, callBytes, callSize, raiseSize, zeros}
 
 -- A handler in force is not 0.
 pub guarded-test : (h : ℕ) → eqb (suc h) 0 ≡ false
@@ -60,6 +60,10 @@ pub raise-size : (base v h : ℕ) → length (raiseBytes base v h) ≡ raiseSize
 unfolding raiseBytes raiseSize
 raise-size base v zero = refl
 raise-size base v (suc h) = rw (guarded-test h) (label-size base v (suc h))
+
+pub difference-size : (base v h x y z : ℕ) → length (differenceBytes base v h x y z) ≡ 6 + raiseSize v h
+unfolding differenceBytes
+difference-size base v h x y z = let a = raise-size base v h in omega arith
 
 -- The sizes by the handler in force, as they are computed.
 pub plain-sum : (v h n : ℕ) {j : ℕ} → h ≡ 0 → j ≡ 6 + n → 5 + j ≡ callSize v h n

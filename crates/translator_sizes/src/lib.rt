@@ -13,7 +13,7 @@ ghost use Rattle.procedure_layout.specs.Layout.{maxVariables};
 ghost use Rattle.procedure_file.specs.Loaded.{Tabled, Loaded};
 ghost use Rattle.procedure_file.specs.Check.{programOf};
 ghost use Rattle.semantics.specs.Program.{functionOf};
-ghost use Rattle.translator_bytes.specs.Bytes.{callSize, operationSize};
+ghost use Rattle.translator_bytes.specs.Bytes.{raiseSize, callSize, operationSize};
 ghost use Rattle.translator_sizes.specs.Parts.{fieldsOf, functionBytes};
 ghost use Rattle.translator_sizes.specs.Standing.{OperationStands, CountInTable, BlockSize, LabelSize};
 
@@ -28,6 +28,13 @@ fn call_size(v: u8, h: u8, n: u8) -> usize
     } else {
         8 + (inner + other)
     }
+}
+
+fn difference_size(v: u8, h: u8) -> usize
+    requires { ⌜ v ≤ maxVariables ⌝ }
+    ensures { λ r. ⌜ (r ≡ 6 + raiseSize v h) × (r ≤ 128) ⌝ }
+{
+    6 + jumps::raise_size(v, h)
 }
 
 fn branch_size(v: u8) -> usize
@@ -53,7 +60,7 @@ fn operation_size(v: u8, h: u8, x: Operation) -> usize
     match x {
         Operation::Constant { .. } => 6,
         Operation::Copy { .. } => 3,
-        Operation::Difference { .. } => 4,
+        Operation::Difference { .. } => difference_size(v, h),
         Operation::Call { count, .. } => call_size(v, h, count),
         Operation::Goto { .. } => goto_size(v),
         Operation::Return { .. } => 3,

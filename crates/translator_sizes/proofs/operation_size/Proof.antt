@@ -1,6 +1,7 @@
 -- `translator_sizes::operation_size` meets its contract.
 use Rattle.translator_bytes.specs.Bytes.{operationSize}
 use Rattle.translator_sizes.specs.Standing.{CountInTable}
+use native.Mathlib.Omega.{arith}
 use mathlib.Core.Path.{sym, ap, _∙_, subst}
 use borrow.Author.Needs.{needs}
 use Rattle.translator_sizes.proofs.operation_size.Statement.{statement}
@@ -14,6 +15,9 @@ enum-told-2 c = search needs
 
 enum-told-3 : tie.Need-enum-told-3
 enum-told-3 c = search needs
+
+difference-size-requires : tie.Need-difference-size-requires
+difference-size-requires c κs = search needs
 
 enum-known-x : tie.Need-enum-known-x
 enum-known-x c = search needs
@@ -54,7 +58,9 @@ returns-2 : tie.Need-returns-2
 returns-2 c = search needs
 
 returns-3 : tie.Need-returns-3
-returns-3 c = search needs
+returns-3 c =
+    let entry = c .before .before .before in
+    (c .difference-size .ensures .0 ∙ sym (ap (operationSize (entry .args .v) (entry .args .h)) (c .before .enum-told3 .given .1)), c .difference-size .ensures .1)
 
 returns-4 : tie.Need-returns-4
 returns-4 c =
@@ -77,7 +83,7 @@ returns-7 c =
 returns-8 : tie.Need-returns-8
 returns-8 c =
     let entry = c .before .before .before in
-    (c .raise-size .ensures .0 ∙ sym (ap (operationSize (entry .args .v) (entry .args .h)) (c .before .enum-told7 .given .1)), c .raise-size .ensures .1)
+    (c .raise-size .ensures .0 ∙ sym (ap (operationSize (entry .args .v) (entry .args .h)) (c .before .enum-told7 .given .1)), omega (arith, c .raise-size .ensures .1))
 
 returns-9 : tie.Need-returns-9
 returns-9 c = search needs
@@ -89,6 +95,7 @@ operation-size-spec =
     enum-told
     enum-told-2
     enum-told-3
+    difference-size-requires
     enum-known-x
     call-size-requires
     enum-told-4

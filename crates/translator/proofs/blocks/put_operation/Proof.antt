@@ -66,8 +66,9 @@ difference-fields-requires c κs =
 
 put-difference-requires : tie.Need-put-difference-requires
 put-difference-requires c κs =
-    let entry = entry-before-difference-fields (c .before) in (
-      arm-numbers (entry .pre .0) (c .before .difference-fields .ensures),
+    let entry = entry-before-difference-fields (c .before) in
+    let numbers = arm-numbers (entry .pre .0) (c .before .difference-fields .ensures) in (
+      (entry .pre .0 .baseBound, variables-bound (entry .pre .0 .here), numbers .0, numbers .1, numbers .2),
       arm-room (entry .args .file .now) (entry .args .numbers .now) (entry .args .base) (entry .args .v) (entry .args .h) (entry .args .at) (c .before .difference-fields .ensures) (entry .pre .1),
     )
 
