@@ -1,16 +1,16 @@
--- A difference of two signed 32-bit values wraps by adding or taking 2^32 once.
+-- A difference of two signed 32-bit values: it wraps by adding or taking 2^32 once, and fits by two tests.
 use Prim.Native.Nat.{ℕ, zero, suc, _-_, _%_, _≤_, _<_}
 use native.Mathlib.Omega.{arith}
 use mathlib.Core.Path.{_≡_, refl, sym, ap, _∙_, subst}
-use mathlib.Core.Bool.{Bool, true, false, cond}
+use mathlib.Core.Bool.{Bool, true, false, cond, _&&_}
 use lib.Dec.{ltb}
 use borrow.Author.Tests.{ltb-true, ltb-false, lt-ltb, le-ltb}
 use lib.IntN.{ℤ, pos, negsuc, _+ℤ_, _-ℤ_, subℕ}
-use lib.Signed.{mag, ltZ}
+use lib.Signed.{mag, ltZ, leZ}
 use mir.Syntax.{w32, w64}
 use mir.Val.{SFits, toZ, ofZ}
 use mir.Facts.{toZ-ofZ}
-use Rattle.semantics.specs.Value.{wrapped}
+use Rattle.semantics.specs.Value.{wrapped, least, greatest, inRange}
 use Rattle.semantics.specs.ValueLaws.{IsValue, toZ-below-half, toZ-from-half, wrapped-value, wrapped-same}
 
 impossible : {A : Type 0} → false ≡ true → A
@@ -92,7 +92,12 @@ module _ (d : ℤ) (h : mag d < 4294967296) where
       (sym (wrapped-same d (within-range d (ap (λ (x : ℤ). ltZ x (negsuc 2147483647)) (sym back) ∙ e) (ap (λ (x : ℤ). ltZ (pos 2147483647) x) (sym back) ∙ f))))
       (wrapped-value d)
 
--- `wrapped_difference`, as the code has it.
+-- The two tests of `difference_fits`, by what the first gave.
+pub in-range-by : {d x : ℤ} {c : Bool} → d ≡ x → leZ least d ≡ c → (c && leZ d greatest) ≡ inRange x
+unfolding inRange
+in-range-by {d} q e = ap (λ (c : Bool). c && leZ d greatest) (sym e) ∙ ap inRange q
+
+-- The difference of two values in 64 bits, as the code has it.
 pub wide-fits : (y : ℤ) → SFits w32 y → SFits w64 (toZ w32 (ofZ w32 y))
 wide-fits y h = subst (λ (x : ℤ). SFits w64 x) (sym (toZ-ofZ h)) (record { sfits = let l : mag y < 2147483648 = h .sfits in omega arith })
 

@@ -1,8 +1,9 @@
-// Signed 32-bit values: the wrapped difference, and the comparison of the values themselves.
+// Signed 32-bit values: the difference, whether it is one, and the comparison of the values themselves.
 ghost use mathlib.Core.Path.{_≡_};
 ghost use Prim.Native.Nat.{_<_};
+ghost use lib.IntN.{_-ℤ_};
 ghost use lib.Signed.{mag};
-ghost use Rattle.semantics.specs.Value.{wrapped, minus, atMost};
+ghost use Rattle.semantics.specs.Value.{wrapped, minus, inRange, atMost};
 
 // A difference of two values, wrapped modulo 2^32 back into the range.
 fn narrowed(d: i64) -> i32
@@ -23,6 +24,14 @@ pub fn wrapped_difference(y: i32, z: i32) -> i32
     ensures { λ r. ⌜ r ≡ minus y z ⌝ }
 {
     narrowed((y as i64) - (z as i64))
+}
+
+// Whether the difference of two values is one: "An out-of-range difference raises".
+pub fn difference_fits(y: i32, z: i32) -> bool
+    ensures { λ r. ⌜ r ≡ inRange (y -ℤ z) ⌝ }
+{
+    let d = (y as i64) - (z as i64);
+    -2147483648 <= d && d <= 2147483647
 }
 
 // Whether y ≤ z, of the signed values themselves.

@@ -37,7 +37,7 @@ locals-bound {s} F g = by (ltb g (length (programOf s))) refl
 
 -- A step has at most 25 extras.
 extra-small : {s : List ℕ} → FileInvariant s → (S : State) → extra (programOf s) S ≤ 25
-extra-small {s} F S = extra-bound (programOf s) 24 (locals-bound F) S
+extra-small {s} F S = extra-bound (programOf s) 24 (omega arith) (locals-bound F) S
 
 -- After n steps of a run with budget b that began at r₀, vs₀, words₀.
 pub record Turn (s : List ℕ) (limit b : ℕ) (r₀ : Regs) (vs₀ words₀ : List ℤ) (n : ℕ) (r : Regs) (vs words : List ℤ) : Type 0 where

@@ -1,17 +1,19 @@
 -- One law an operation, as the code has it: what its function answers is the rules' step.
-use Prim.Native.Nat.{ℕ, _+_, _<_}
-use mathlib.Core.Path.{_≡_, refl, sym, ap, ap₂, _∙_}
+use Prim.Native.Nat.{ℕ, suc, _+_, _<_}
+use native.Mathlib.Omega.{arith}
+use mathlib.Core.Path.{_≡_, refl, sym, ap, ap₂, _∙_, subst}
 use mathlib.Core.Bool.{Bool, true, false, cond}
 use mathlib.Core.List.{List}
-use lib.IntN.{ℤ, pos}
+use lib.IntN.{ℤ, pos, _-ℤ_}
 use lib.ListN.{length, getD, set, take, length-set}
 use lib.Seq.{take-set-lt}
-use Rattle.semantics.specs.Value.{minus, atMost}
+use Rattle.semantics.specs.Value.{minus, inRange, atMost}
+use Rattle.semantics.specs.ValueLaws.{minus-same}
 use Rattle.semantics.specs.Program.{Label}
 use Rattle.semantics.specs.Run.{next}
-use Rattle.semantics.specs.Bench.{Frame, state, step}
+use Rattle.semantics.specs.Bench.{Frame, state, raised, step}
 use Rattle.semantics.specs.WellFormed.{IsLabel}
-use Rattle.semantics.specs.Extras.{extra}
+use Rattle.semantics.specs.Extras.{caughtOutside, extra}
 use Rattle.procedure_operations.specs.declared.operation.Operation.{Operation}
 use Rattle.procedure_operations.specs.declared.operation.Operation.the-variants.{Constant, Copy, Difference, Goto, Branch}
 use Rattle.procedure_operations.specs.Operation.{operationAt}
@@ -20,12 +22,14 @@ use Rattle.procedure_fields.specs.NumberLaws.{raise-known}
 use Rattle.procedure_file.specs.Check.{programOf}
 use Rattle.procedure_layout.specs.Rest.{restAt}
 use Rattle.bench_frames.specs.declared.registers.Regs.{Regs}
+use Rattle.bench_frames.specs.declared.registers.Step.{Step}
 use Rattle.bench_frames.specs.declared.registers.Step.the-variants.{Next}
 use Rattle.procedure_file.specs.FileInvariant.{FileInvariant, Stands}
 use Rattle.bench_frames.specs.Machine.{functionAt, varsOf, startRegs, framesOf, stateOf, Invariant, StepResult}
 use Rattle.bench_frames.specs.StateLaws.{before, stepped, extra-is, placed, there, on, moved}
 use Rattle.bench_unwind.specs.Raises.{Raises}
-use Rattle.bench_unwind.specs.EnterLaws.{value-is, no-extras, to-label}
+use Rattle.bench_step.specs.Subtracts.{behind, Subtracts}
+use Rattle.bench_unwind.specs.EnterLaws.{value-of, value-is, no-extras, to-label}
 
 module _ {s : List ℕ} (F : FileInvariant s) {limit : ℕ} {r : Regs} {vs words : List ℤ} (H : Invariant s limit r vs words) where
   abbrev now-vars : List ℤ
@@ -34,12 +38,8 @@ module _ {s : List ℕ} (F : FileInvariant s) {limit : ℕ} {r : Regs} {vs words
   abbrev now-frames : List Frame
   now-frames = framesOf s words (r .waiting)
 
-  -- The registers that go on behind an operation.
-  abbrev pub behind : ℕ → Regs
-  behind n = record { function = r .function; handler = r .handler; at = n; waiting = r .waiting; extras = r .extras }
-
   -- A value is assigned to variable x, which is a in the code.
-  assigned : {o : Operation} {x a n : ℕ} {u v : ℤ} {q : Regs} → operationAt s (r .at) ≡ o → a ≡ x → v ≡ u → q ≡ behind n → x < varsOf s (r .function) → Stands s (r .function) n → extra (programOf s) (before F H o) ≡ 0
+  assigned : {o : Operation} {x a n : ℕ} {u v : ℤ} {q : Regs} → operationAt s (r .at) ≡ o → a ≡ x → v ≡ u → q ≡ behind r n → x < varsOf s (r .function) → Stands s (r .function) n → extra (programOf s) (before F H o) ≡ 0
       → step (programOf s) limit (before F H o) ≡ next (state (r .function) (r .handler) (restAt s n) (set now-vars x u) now-frames) → StepResult s limit r vs words (Next q) (set vs a v) words
   unfolding stateOf
   assigned {x = x} {n = n} {u = u} e ea ev eq lx st z m =
@@ -51,21 +51,41 @@ module _ {s : List ℕ} (F : FileInvariant s) {limit : ℕ} {r : Regs} {vs words
   value y = getD vs y (pos 0)
 
   -- 1 constant
-  pub constant-done : {x a n : ℕ} {i v : ℤ} {q : Regs} → operationAt s (r .at) ≡ Constant x i n → a ≡ x → v ≡ i → q ≡ behind n → StepResult s limit r vs words (Next q) (set vs a v) words
+  pub constant-done : {x a n : ℕ} {i v : ℤ} {q : Regs} → operationAt s (r .at) ≡ Constant x i n → a ≡ x → v ≡ i → q ≡ behind r n → StepResult s limit r vs words (Next q) (set vs a v) words
   unfolding step
   constant-done e ea ev eq = assigned e ea ev eq (placed F H e .block .0) (on F H e) refl refl
 
   -- 2 copy
-  pub copy-done : {x y a b n : ℕ} {v : ℤ} {q : Regs} → operationAt s (r .at) ≡ Copy x y n → a ≡ x → b ≡ y → v ≡ value b → q ≡ behind n → StepResult s limit r vs words (Next q) (set vs a v) words
+  pub copy-done : {x y a b n : ℕ} {v : ℤ} {q : Regs} → operationAt s (r .at) ≡ Copy x y n → a ≡ x → b ≡ y → v ≡ value b → q ≡ behind r n → StepResult s limit r vs words (Next q) (set vs a v) words
   unfolding step
   copy-done e ea eb ev eq = assigned e ea (ev ∙ ap value eb) eq (placed F H e .block .0) (on F H e) refl (rw (value-is F H (placed F H e .block .1)))
 
-  -- 3 difference
-  pub difference-done : {x y z a b c n : ℕ} {v : ℤ} {q : Regs} → operationAt s (r .at) ≡ Difference x y z n → a ≡ x → b ≡ y → c ≡ z → v ≡ minus (value b) (value c) → q ≡ behind n
-      → StepResult s limit r vs words (Next q) (set vs a v) words
+  -- 3 difference: its step and its extras, by whether it fits.
+  judged : {x y z y′ z′ n : ℕ} {a b : ℤ} {c c′ : Bool} → operationAt s (r .at) ≡ Difference x y z n → y′ ≡ y → z′ ≡ z → a ≡ value y′ → b ≡ value z′ → c ≡ inRange (a -ℤ b) → c ≡ c′ → (
+      step (programOf s) limit (before F H (Difference x y z n)) ≡ cond c′ (next (state (r .function) (r .handler) (restAt s n) (set now-vars x (a -ℤ b)) now-frames))
+      (raised (programOf s) (r .function) (r .handler) now-vars now-frames)
+      )
+      × (extra (programOf s) (before F H (Difference x y z n)) ≡ cond c′ 0 (suc (caughtOutside (r .handler) now-frames)))
   unfolding step
-  difference-done e ea eb ec ev eq =
-      assigned e ea (ev ∙ ap₂ minus (ap value eb) (ap value ec)) eq (placed F H e .block .0) (on F H e) refl (rw (value-is F H (placed F H e .block .1), value-is F H (placed F H e .block .2)))
+  judged {y = y} {z = z} {a = a} {b = b} {c′ = c′} e ey ez ea eb ec et =
+      let w = placed F H e .block in
+      let p : a ≡ value y = ea ∙ ap value ey in
+      let q : b ≡ value z = eb ∙ ap value ez in
+      let k : inRange (value y -ℤ value z) ≡ c′ = sym (ec ∙ ap₂ (λ (i j : ℤ). inRange (i -ℤ j)) p q) ∙ et in
+      (rw (p, q, value-is F H (w .1), value-is F H (w .2), k), rw (value-of F H (w .1), value-of F H (w .2), k))
+
+  pub difference-done : {x y z x′ y′ z′ n : ℕ} {a b v : ℤ} {c : Bool} {q : Regs} → operationAt s (r .at) ≡ Difference x y z n → x′ ≡ x → y′ ≡ y → z′ ≡ z → a ≡ value y′ → b ≡ value z′ → c ≡ inRange (a -ℤ b) → c ≡ true
+      → v ≡ minus a b → q ≡ behind r n → StepResult s limit r vs words (Next q) (set vs x′ v) words
+  difference-done {a = a} {b = b} e ex ey ez ea eb ec et ev eq =
+      let D = judged e ey ez ea eb ec et in assigned e ex (ev ∙ minus-same a b (sym ec ∙ et)) eq (placed F H e .block .0) (on F H e) (D .1) (D .0)
+
+  pub difference-raises : {x y z y′ z′ n : ℕ} {a b : ℤ} {c : Bool} → operationAt s (r .at) ≡ Difference x y z n → y′ ≡ y → z′ ≡ z → a ≡ value y′ → b ≡ value z′ → c ≡ inRange (a -ℤ b) → c ≡ false
+      → Raises s limit r vs words (r .extras + 1)
+  difference-raises e ey ez ea eb ec et =
+      let D = judged e ey ez ea eb ec et in
+      let m = caughtOutside (r .handler) now-frames in
+      let p : r .extras + suc m ≡ r .extras + 1 + m = omega arith in
+      record { outcome = stepped F H e ∙ D .0; counted = ap (λ (k : ℕ). r .extras + k) (extra-is F H e ∙ D .1) ∙ p }
 
   -- 5 goto
   pub goto-safe : {l n : ℕ} → operationAt s (r .at) ≡ Goto l n → (r .function < length (programOf s)) × IsLabel (length (functionAt s (r .function) .blocks)) l
@@ -100,3 +120,19 @@ module _ {s : List ℕ} (F : FileInvariant s) {limit : ℕ} {r : Regs} {vs words
   pub raise-raises : numberOf (operationAt s (r .at)) ≡ 8 → Raises s limit r vs words (r .extras)
   unfolding step
   raise-raises e = let o = raise-known (operationAt s (r .at)) e in record { outcome = stepped F H (o .1); counted = ap (λ (k : ℕ). r .extras + k) (extra-is F H (o .1)) }
+
+-- ── Operation 3 up to a raise ───────────────────────────────────────────────────────────────────
+
+module _ {s : List ℕ} {limit : ℕ} {r : Regs} {vs words : List ℤ} where
+  pub subtract-done : {n : ℕ} {b : Bool} {vs′ : List ℤ} {q : Regs} → Subtracts s limit r vs words n b vs′ → b ≡ true → q ≡ behind r n → StepResult s limit r vs words (Next q) vs′ words
+  subtract-done {n} {vs′ = vs′} D e eq = rw eq (subst (λ (b : Bool). Subtracts s limit r vs words n b vs′) e D)
+
+  pub subtract-raises : (n : ℕ) {b : Bool} {vs′ : List ℤ} → Subtracts s limit r vs words n b vs′ → b ≡ false → Raises s limit r vs words (r .extras + 1) × (vs′ ≡ vs)
+  subtract-raises n {vs′ = vs′} D e = subst (λ (b : Bool). Subtracts s limit r vs words n b vs′) e D
+
+  -- `raise_step` behind it, with variables us, which are those before.
+  pub raise-asked : {us : List ℤ} {k : ℕ} → us ≡ vs → Invariant s limit r vs words → Raises s limit r vs words k → Invariant s limit r us words × Raises s limit r us words k
+  raise-asked e H R = rw e (H, R)
+
+  pub raise-done : {us us′ : List ℤ} {x : Step} → us ≡ vs → StepResult s limit r us words x us′ words → StepResult s limit r vs words x us′ words
+  raise-done {us′ = us′} {x = x} e D = subst (λ (ws : List ℤ). StepResult s limit r ws words x us′ words) e D

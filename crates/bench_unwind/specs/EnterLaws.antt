@@ -11,7 +11,7 @@ use Rattle.semantics.specs.Program.{Block, Labelled}
 use Rattle.semantics.specs.Run.{next}
 use Rattle.semantics.specs.Bench.{Frame, state, enter, step}
 use Rattle.semantics.specs.WellFormed.{IsLabel}
-use Rattle.semantics.specs.Extras.{extra}
+use Rattle.semantics.specs.Extras.{valueOf, extra}
 use Rattle.semantics.specs.ListLaws.{at-getD}
 use Rattle.semantics.specs.SlotLaws.{given-some}
 use Rattle.procedure_file.specs.Check.{programOf}
@@ -43,10 +43,13 @@ module _ {s : List ℕ} (F : FileInvariant s) where
     now-frames = framesOf s words (r .waiting)
 
     -- The value of a variable.
+    pub value-of : {y : ℕ} → y < varsOf s (r .function) → valueOf now-vars y ≡ getD vs y (pos 0)
+    value-of {y} h = getD-take (varsOf s (r .function)) vs y (pos 0) h
+
     pub value-is : {y : ℕ} → y < varsOf s (r .function) → getElem? now-vars y ≡ some (getD vs y (pos 0))
     value-is {y} h =
         at-getD now-vars y (pos 0) (subst (λ (n : ℕ). y < n) (sym (place F H .variables)) h)
-        ∙ ap (λ (z : ℤ). some z) (getD-take (varsOf s (r .function)) vs y (pos 0) h)
+        ∙ ap (λ (z : ℤ). some z) (value-of h)
 
     -- To a label of the running function, with k extras.
     pub to-label : {l k : ℕ} {q : Regs} → IsLabel (length (functionAt s (r .function) .blocks)) l → step (programOf s) limit (stateOf s r vs words) ≡ enter (programOf s) (r .function) l now-vars now-frames
