@@ -1,11 +1,11 @@
 -- Document 01's starred cases ('The test procedure and its neighbours'), as one table under one theorem, by computation of the rules
--- from the bytes of the files. Steps are bench, controller.
+-- from the bytes of the files. Steps are bench, controller. Document 02, Slip 2: "The wrap case becomes: raises."
 use Prim.Native.Nat.{ℕ, _+_, _*_}
 use mathlib.Core.Path.{_≡_, refl}
 use mathlib.Core.List.{List, [], _∷_, _++_}
-use lib.IntN.{ℤ, pos, negsuc}
+use lib.IntN.{ℤ, pos}
 use lib.ListN.{take, set}
-use Rattle.semantics.specs.Value.{wrapped, minus, atMost}
+use Rattle.semantics.specs.Value.{least, inRange, atMost}
 use Rattle.semantics.specs.Run.{value, uncaught, Stop, ended, spent, deep}
 use Rattle.semantics.specs.Bench.{step, bench}
 use Rattle.semantics.specs.WellFormed.{All}
@@ -60,6 +60,30 @@ callsThenRaises =
     0 ∷ 1 ∷ 0 ∷
     6 ∷ 0 ∷ []
 
+-- Main, two arguments: the first less the second into the first, which is returned.
+abbrev pub subtracts : List ℕ
+subtracts = 0x53 ∷ 0x50 ∷ 0x46 ∷ 1 ∷ 0 ∷ 1 ∷ 2 ∷ 0 ∷ 0 ∷ 3 ∷ 0 ∷ 0 ∷ 1 ∷ 6 ∷ 0 ∷ []
+
+-- The same in a block, label 1, whose handler, label 2, returns the first argument.
+abbrev pub subtractsGuarded : List ℕ
+subtractsGuarded =
+    0x53 ∷ 0x50 ∷ 0x46 ∷ 1 ∷ 0 ∷ 1 ∷
+    2 ∷ 0 ∷ 2 ∷
+    5 ∷ 1 ∷
+    2 ∷ 3 ∷ 0 ∷ 0 ∷ 1 ∷ 6 ∷ 0 ∷
+    0 ∷ 6 ∷ 0 ∷ []
+
+-- The same, the difference in a function that the block calls.
+abbrev pub subtractsCalled : List ℕ
+subtractsCalled =
+    0x53 ∷ 0x50 ∷ 0x46 ∷ 1 ∷ 0 ∷ 2 ∷
+    2 ∷ 0 ∷ 2 ∷
+    5 ∷ 1 ∷
+    2 ∷ 4 ∷ 0 ∷ 1 ∷ 2 ∷ 0 ∷ 1 ∷ 6 ∷ 0 ∷
+    0 ∷ 6 ∷ 0 ∷
+    2 ∷ 0 ∷ 0 ∷
+    3 ∷ 0 ∷ 0 ∷ 1 ∷ 6 ∷ 0 ∷ []
+
 -- A row of the table.
 pub data Row : Type 0 where
   -- A file, and the checker's answer.
@@ -68,8 +92,6 @@ pub data Row : Type 0 where
   checksWithOneMore : List ℕ → Verdict → Row
   -- File, arguments, depth, budget; the bytes of the translation; how both machines stop; bench steps, extras, controller steps.
   runs : List ℕ → List ℤ → ℕ → ℕ → ℕ → Stop (Unit {0}) → ℕ → ℕ → ℕ → Row
-  -- y less z is.
-  differs : ℤ → ℤ → ℤ → Row
 
 abbrev pub Holds : Row → Type 0
 Holds (checks s v) = checkOf s ≡ v
@@ -82,7 +104,6 @@ Holds (runs s args depth budget target stop n x m) =
       bench = record { result = record { stop = stop; steps = n }; extras = x };
       controller = record { stop = stop; steps = m };
     })
-Holds (differs y z v) = minus y z ≡ v
 
 abbrev pub table : List Row
 table =
@@ -92,7 +113,10 @@ table =
     ∷ runs fileT (pos 5 ∷ []) 256 0 106 (spent tt) 0 1 1
     ∷ runs fileT (pos 5 ∷ []) 256 4 106 (spent tt) 4 4 8
     ∷ runs fileT (pos 5 ∷ []) 256 5 106 (ended (value (pos 5))) 5 4 9
-    ∷ differs (negsuc 2147483647) (pos 1) (pos 2147483647)
+    ∷ runs subtracts (least ∷ pos 1 ∷ []) 256 100 21 (ended uncaught) 1 1 2
+    ∷ runs subtracts (least ∷ pos 0 ∷ []) 256 100 21 (ended (value least)) 2 0 2
+    ∷ runs subtractsGuarded (least ∷ pos 1 ∷ []) 256 100 44 (ended (value least)) 3 1 4
+    ∷ runs subtractsCalled (least ∷ pos 1 ∷ []) 256 100 68 (ended (value least)) 4 3 7
     ∷ checks [] (refused 3 0)
     ∷ checks (0x53 ∷ 0x50 ∷ 0x47 ∷ []) (refused 1 2)
     ∷ checks (take 40 fileT) (refused 3 40)
@@ -110,6 +134,6 @@ unfolding sidesTell controllerBudget sidesVerdict callVerdict argumentsVerdict w
     Operation.branchAt Operation.endAt Fields.head Fields.version Fields.count Fields.ended Fields.valueOf Names.namesOf
     Writing.writing Target.codeOf TargetLayout.code TargetLayout.targets TargetLayout.functions TargetLayout.function
     Expressions.expression Parts.pair Parts.levelVerdict Tag.tagAt Tag.constantAt Tag.copyAt Tag.differenceAt Tag.jumpAt
-    Tag.resumeAt Tag.handleAt Tag.branchAt Tag.continuationAt Tag.continuationWithHandlerAt TagNames.judged wrapped minus atMost
+    Tag.resumeAt Tag.handleAt Tag.branchAt Tag.continuationAt Tag.continuationWithHandlerAt Tag.differenceOrRaiseAt TagNames.judged inRange atMost
     step bench code translate controlStep controller extras
-cases = (refl, (refl, (refl, (refl, (refl, (refl, (refl, (refl, (refl, (refl, ((λ b. refl), (refl, (refl, (refl, (refl, tt)))))))))))))))
+cases = (refl, (refl, (refl, (refl, (refl, (refl, (refl, (refl, (refl, (refl, (refl, (refl, (refl, ((λ b. refl), (refl, (refl, (refl, (refl, tt))))))))))))))))))

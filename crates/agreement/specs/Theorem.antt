@@ -103,7 +103,7 @@ pub few-steps : (s : List ℕ) → Bytes s → Procedure.checkOf s ≡ accepted 
     → bench (Procedure.programOf s) f args depth budget .steps + extras (Procedure.programOf s) f args depth budget < 9223372036854775807
 few-steps s bytes ok f args depth budget h =
     let k = bench-bound (Procedure.programOf s) f args depth budget in
-    let l = extras-bound (Procedure.programOf s) 24 (locals-bound (Procedure.programOf s) (is-writing s bytes ok .0 .inRange .functions)) f args depth budget in
+    let l = extras-bound (Procedure.programOf s) 24 (omega arith) (locals-bound (Procedure.programOf s) (is-writing s bytes ok .0 .inRange .functions)) f args depth budget in
     omega (arith, k, l)
 
 -- ── From the rules to the answers ───────────────────────────────────────────────────────────────
