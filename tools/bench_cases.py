@@ -1,11 +1,12 @@
 #!/usr/bin/env python3
-"""Writes the cases of crates/bench_cases and the answers expected: run in the repository's root. Needs ../shared/vectors/both.txt.
+"""Writes the cases of crates/bench_cases and the answers expected: run in the repository's root. Needs both.txt of
+../shared/vectors and of its folder slip-2.
 
 The answers come from tools/procedure.py, and from the words of a frame in docs/FRAMES.md. Where a vector gives the bench's run, the model
 must give the same.
 """
-from procedure import Bench, T, check
-from records import Refused, agree, header, judge_call, little, vectors, write
+from procedure import Bench, Function, T, back, call, check, constant, difference, differs, goto, written
+from records import GREATEST, LEAST, Refused, agree, header, judge_call, little, procedure_of, vectors, write
 
 
 def field(data, at, size, signed=False):
@@ -54,12 +55,30 @@ add(b"SPG", [5, 6], 300, 100)
 
 # The vectors of `both` of at most 400 bytes, but for the empty input, which has no line here. The longer ones are above the file limit of
 # `both`, which the bench does not have, or refused for their depth as shorter ones are.
-for data, text in vectors("both.txt"):
-    if not 1 <= len(data) <= 400:
-        continue
-    cases.append((140, data))
-    given = next((line[6:] for line in text.split(" | ") if line.startswith("bench ")), text)
-    agree(data.hex(), given, expected(*cases[-1]).split(" extras")[0].removesuffix(" kept"))
+for name in ("both.txt", "slip-2/both.txt"):
+    for data, text in vectors(name):
+        if not 1 <= len(data) <= 400:
+            continue
+        cases.append((140, data))
+        given = next((line[6:] for line in text.split(" | ") if line.startswith("bench ")), text)
+        if name != "both.txt" or not differs(procedure_of(data)):
+            agree(data.hex(), given, expected(*cases[-1]).split(" extras")[0].removesuffix(" kept"))
+
+# A difference at both ends of the range: uncaught; caught in its own function, which returns the target; caught in the caller, past a frame
+# without a handler; its target another variable, or one that it reads.
+lessen = [
+    [Function(2, 1, [difference(x, 0, 1), back(x)])] for x in (0, 1, 2)] + [
+    [Function(2, 1, [constant(2, 9), goto(1)], (2, [difference(x, 0, 1), back(x)]), (0, [back(x)]))] for x in (0, 1, 2)] + [
+    [Function(2, 1, [goto(1)], (2, [call(2, 1, [0, 1]), back(2)]), (0, [back(0)])),
+     Function(2, 0, [call(0, 2, [0, 1]), back(0)]), Function(2, 0, [difference(0, 0, 1), back(0)])]]
+ends = (
+    (LEAST, 1), (LEAST, 0), (LEAST, -1), (GREATEST, -1), (GREATEST, 0), (GREATEST, LEAST), (LEAST, GREATEST), (-1, GREATEST), (-1, LEAST),
+    (0, LEAST))
+for functions in lessen:
+    for y, z in ends:
+        add(written(*functions), [y, z], 2, 100)
+for budget in range(8):
+    add(written(*lessen[-1]), [LEAST, 1], 2, budget)
 
 write("bench_cases", (bytes([delta]) + little(len(data), 2) + data for delta, data in cases), (expected(*case) + "\n" for case in cases))
 print(len(cases), "cases")

@@ -1,6 +1,6 @@
 #!/usr/bin/env python3
-"""Writes the cases of crates/both_cases and the texts expected: run in the repository's root. Needs ../shared/vectors/both.txt, and
-../shared/peer/both.c, which it compiles with `cc` in a temporary folder.
+"""Writes the cases of crates/both_cases and the texts expected: run in the repository's root. Needs both.txt of ../shared/vectors
+and of its folder slip-2, and ../shared/peer/both.c, which it compiles with `cc` in a temporary folder.
 
 The peer is a program that reads one input of `both` and prints its text, written by other hands than the crates. The text of a vector is the
 one that the vectors give; the text of any other case is the peer's, and where document 01 lays it down it is written here too. Where a text
@@ -14,14 +14,14 @@ import sys
 import tempfile
 from collections import Counter
 
-from procedure import T, T_FUNCTIONS, Function, back, branch, call, constant, difference, duplicate, goto, throw, translation, written
-from records import GREATEST, LEAST, header, little, shared, vectors, write
+from procedure import T, T_FUNCTIONS, Function, back, branch, call, constant, difference, differs, duplicate, goto, throw, translation, written
+from records import GREATEST, LEAST, header, little, procedure_of, shared, vectors, write
 
 if shutil.which("cc") is None:
     sys.exit("cc is missing: the peer cannot be compiled")
 folder = tempfile.TemporaryDirectory()
 peer = os.path.join(folder.name, "both")
-subprocess.run(["cc", "-O1", "-o", peer, shared("peer", "both.c")], check=True)
+subprocess.run(["cc", "-O1", "-DSLIPS=2", "-o", peer, shared("peer", "both.c")], check=True)
 cases, differences = [], []
 
 
@@ -55,8 +55,9 @@ def ended(target, end, bench, controller):
 no_header = "no header\n"
 most = 2 ** 32 - 1
 
-for data, text in vectors("both.txt"):
-    add_input(data, text.replace(" | ", "\n") + "\n")
+for name in ("both.txt", "slip-2/both.txt"):
+    for data, text in vectors(name):
+        add_input(data, text.replace(" | ", "\n") + "\n" if name != "both.txt" or not differs(procedure_of(data)) else None)
 from_vectors = len(cases)
 
 
@@ -150,8 +151,8 @@ def wide(length):
             Function(8, 24, [goto(1)], *main), Function(8, 24, [back(0)], *last), Function(8, 24, [*some, back(31)], *last[:60])]
 
     left = length - translated(*made([]))
-    copies = next(n for n in range(left) if (left - 3 * n) % 4 == 0)
-    functions = made([duplicate(31, 0)] * copies + [difference(31, 0, 0)] * ((left - 3 * copies) // 4))
+    copies = next(n for n in range(left) if (left - 3 * n) % 8 == 0)
+    functions = made([duplicate(31, 0)] * copies + [difference(31, 0, 0)] * ((left - 3 * copies) // 8))
     assert translated(*functions) == length and len(written(*functions)) <= 2048
     return functions
 
@@ -177,11 +178,23 @@ for value in ends:
     add_run([Function(1, 0, [back(0)])], [value], 0, 1, ended(13, f"value {value}", 1, 1))
 less = [Function(2, 0, [difference(0, 0, 1), back(0)])]
 smaller = [Function(2, 0, [branch(0, 1, 1, 2)], (0, [back(0)]), (0, [back(1)]))]
-for y, z, value in (
-        (LEAST, 1, GREATEST), (GREATEST, -1, LEAST), (LEAST, GREATEST, 1), (GREATEST, LEAST, -1), (0, LEAST, LEAST), (-1, LEAST, GREATEST),
-        (LEAST, LEAST, 0)):
-    add_run(less, [y, z], 0, 100, ended(17, f"value {value}", 2, 2))
+# The same difference, caught in its own function, and in the function that called its own: the target keeps its value.
+own = [Function(2, 0, [goto(1)], (2, [difference(0, 0, 1), back(0)]), (0, [back(0)]))]
+other = [Function(2, 1, [goto(1)], (2, [call(2, 1, [0, 1]), back(2)]), (0, [back(0)])), *less]
+for y, z in (
+        (LEAST, 1), (GREATEST, -1), (LEAST, GREATEST), (GREATEST, LEAST), (0, LEAST), (-1, LEAST), (LEAST, LEAST), (LEAST, 0), (GREATEST, 0),
+        (LEAST, -1), (GREATEST, 1), (-1, GREATEST), (-2, GREATEST)):
+    if LEAST <= y - z <= GREATEST:
+        add_run(less, [y, z], 0, 100, ended(21, f"value {y - z}", 2, 2))
+        add_run(own, [y, z], 0, 100, ended(44, f"value {y - z}", 3, 3))
+        add_run(other, [y, z], 1, 100, ended(translated(*other), f"value {y - z}", 5, 7))
+    else:
+        add_run(less, [y, z], 0, 100, ended(21, "uncaught", 1, 2))
+        add_run(own, [y, z], 0, 100, ended(44, f"value {y}", 3, 4))
+        add_run(other, [y, z], 1, 100, ended(translated(*other), f"value {y}", 4, 8))
     add_run(smaller, [y, z], 0, 100, ended(translated(*smaller), f"value {min(y, z)}", 2, 3))
+for budget in range(6):
+    add_run(other, [LEAST, 1], 1, budget)
 
 # A main that only raises, and one whose callee's value is thrown away (document 01).
 raising = [Function(0, 0, [throw])]
@@ -296,7 +309,7 @@ for _ in range(100):
     arguments = [source.choice(values) for _ in range(shapes[0][0])]
     made.append(add_run(functions, arguments, source.randrange(6), source.randrange(201)))
 
-assert len(cases) < 600
+assert len(cases) < 900
 # An input too long: the run ends there, and what follows gets no answer.
 inputs = [data for data, _ in cases] + [bytes(4097), header([5], 256, 100) + T]
 write("both_cases", (little(len(data), 2) + data for data in inputs), (text for _, text in cases))

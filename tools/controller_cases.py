@@ -1,5 +1,6 @@
 #!/usr/bin/env python3
-"""Writes the cases of crates/controller_cases and the answers expected: run in the repository's root. Needs ../shared/vectors/target.txt.
+"""Writes the cases of crates/controller_cases and the answers expected: run in the repository's root. Needs target.txt of
+../shared/vectors and of its folder slip-2.
 
 The answers come from tools/target.py. Where a vector gives a refusal or a run, the model must give the same.
 """
@@ -7,8 +8,8 @@ from collections import Counter
 
 from procedure import T as PROCEDURE
 from procedure import translation
-from records import Refused, agree, constant, difference, duplicate, judge_call, little, signed, vectors, write
-from target import both, branch, check, continuation, function, handle, jump, resume, run, target
+from records import GREATEST, LEAST, Refused, agree, constant, difference, duplicate, judge_call, little, signed, vectors, write
+from target import both, branch, check, continuation, difference_or_raise, function, handle, jump, resume, run, target
 
 
 def expected(case):
@@ -32,7 +33,7 @@ def add(file, arguments, depth, budget, delta=128):
 # The vectors as they stand, and each accepted file with depth 2 and a small budget.
 short = []
 wrong = {}
-for file, *fields in vectors("target.txt"):
+for file, *fields in (*vectors("target.txt"), *vectors("slip-2/target.txt")):
     if len(fields) == 1:
         add(file, [], 256, 100)
         given = fields[0]
@@ -178,7 +179,22 @@ for y, z in ((-2 ** 31, 1), (2 ** 31 - 1, -1), (-2 ** 31, 2 ** 31 - 1), (2 ** 31
     add(less, [y, z], 0, 100)
     add(least, [y, z], 0, 100)
 
-assert len(cases) < 500
+# Tag 10 at both ends of the range: the rest with the difference, or the part, which sees the old values; a part that applies the handler of
+# a record drops it and those made later.
+either = [
+    target(function(2, difference_or_raise(x, 2, 3, part, resume(0, x))))
+    for x in (2, 3, 4) for part in (handle(1), resume(0, 2), duplicate(2, 3) + resume(0, 2))]
+guarded = target(
+    function(2, both(4, 5, 6, continuation(7, 8, jump(1, 7, 6, [2, 3]), resume(0, 8)), constant(9, 60) + resume(0, 9), resume(0, 5))),
+    function(2, difference_or_raise(4, 2, 3, handle(1), resume(0, 4))))
+for y, z in ((LEAST, 1), (LEAST, 0), (GREATEST, -1), (GREATEST, 0), (GREATEST, LEAST), (-1, LEAST), (0, LEAST), (-1, GREATEST), (-2, GREATEST)):
+    for file in either:
+        add(file, [y, z], 0, 100)
+    add(guarded, [y, z], 2, 100, 200)
+each_budget(guarded, [LEAST, 1], 2)
+each_budget(guarded, [LEAST, 0], 2)
+
+assert len(cases) < 900
 write(
     "controller_cases",
     (bytes([delta, len(arguments)]) + little(depth, 2) + little(budget, 8) + little(len(file), 3) + signed(arguments) + file

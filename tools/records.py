@@ -52,6 +52,11 @@ def header(arguments, depth, budget):
     return bytes([len(arguments)]) + signed(arguments) + little(depth, 2) + little(budget, 4)
 
 
+def procedure_of(data):
+    """The procedure file behind the first four fields of an input of `both`; nothing where it ends inside them."""
+    return data[4 * data[0] + 7:] if data else b""
+
+
 def wrapped(z):
     """A value outside the range, wrapped back into it."""
     return (z - LEAST) % 2 ** 32 + LEAST

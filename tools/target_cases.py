@@ -1,5 +1,6 @@
 #!/usr/bin/env python3
-"""Writes the cases of crates/target_cases and the answers expected: run in the repository's root. Needs ../shared/vectors/target.txt.
+"""Writes the cases of crates/target_cases and the answers expected: run in the repository's root. Needs target.txt of
+../shared/vectors and of its folder slip-2.
 
 The answers come from the checker of tools/target.py.
 """
@@ -7,7 +8,7 @@ import random
 from collections import Counter
 
 from records import Refused, constant, difference, duplicate, little, vectors, write
-from target import both, branch, check, continuation, function, handle, jump, resume, target
+from target import both, branch, check, continuation, difference_or_raise, function, handle, jump, resume, target
 
 cases = []
 
@@ -29,8 +30,9 @@ def answer(file):
         return str(r)
 
 
-for file, *_ in vectors("target.txt"):
-    add(file)
+for name in ("target.txt", "slip-2/target.txt"):
+    for file, *_ in vectors(name):
+        add(file)
 
 raising = handle(1)
 ok = target(function(1, resume(0, 2)))
@@ -59,7 +61,8 @@ for parameters, body in ((32, resume(0, 33)), (33, resume(0, 33)), (33, b"")):
 # Levels 16 and 17, by each kind of nested part.
 nested = (
     lambda part: branch(2, 2, part, raising), lambda part: continuation(5, 3, part, raising),
-    lambda part: both(5, 3, 6, part, raising, raising), lambda part: both(5, 3, 6, raising, part, raising))
+    lambda part: both(5, 3, 6, part, raising, raising), lambda part: both(5, 3, 6, raising, part, raising),
+    lambda part: difference_or_raise(5, 2, 2, part, raising))
 
 
 def nest(kind, levels, part):
@@ -80,10 +83,10 @@ for kind in nested:
             add(file[:r.args[1]])
             add(file[:r.args[1] + 1])
 
-# Else-parts and continuation bodies do not nest deeper.
+# Else-parts, continuation bodies and rests of tag 10 do not nest deeper.
 for tail in (
         lambda rest: branch(2, 2, raising, rest), lambda rest: continuation(5, 3, raising, rest),
-        lambda rest: both(5, 3, 6, raising, raising, rest)):
+        lambda rest: both(5, 3, 6, raising, raising, rest), lambda rest: difference_or_raise(5, 2, 2, raising, rest)):
     add_body(nest(tail, 200, raising))
 add_body(nest(lambda rest: constant(2, 7) + rest, 2000, raising))
 
@@ -94,6 +97,8 @@ for d in (-1, 1):
     add_body(continuation(5, 3, raising, resume(0, 3), length=2 + d))
     add_body(both(5, 3, 6, raising, resume(0, 2), resume(0, 3), length=2 + d))
     add_body(both(5, 3, 6, raising, resume(0, 2), resume(0, 3), handled=3 + d))
+    add_body(difference_or_raise(5, 2, 2, raising, resume(0, 5), length=2 + d))
+    add_body(difference_or_raise(5, 2, 2, raising, bytes([99]), length=2 + d))
     add_body(branch(2, 2, branch(2, 2, raising, raising, length=2 + d), raising, length=99))
     add_body(branch(2, 2, bytes([99]), raising, length=99))
     add_body(branch(2, 2, raising, bytes([99]), length=2 + d))
@@ -109,8 +114,9 @@ for x in (35, 36, 255):
     for body in (
             constant(x, -1) + resume(0, 2), duplicate(x, 2) + resume(0, 2), difference(x, 2, 2) + resume(0, 2),
             bound + duplicate(3, x) + resume(0, 2), bound + difference(3, x, 2) + resume(0, 2), bound + difference(3, 2, x) + resume(0, 2),
-            continuation(x, 3, raising, raising), continuation(3, x, raising, raising), both(x, 3, 4, raising, raising, raising),
-            both(3, x, 4, raising, raising, raising), both(3, 4, x, raising, raising, raising), bound + resume(0, x), bound + resume(x, 2),
+            difference_or_raise(x, 2, 2, raising, raising), bound + difference_or_raise(3, x, 2, raising, raising),
+            bound + difference_or_raise(3, 2, x, raising, raising), continuation(x, 3, raising, raising), continuation(3, x, raising, raising),
+            both(x, 3, 4, raising, raising, raising), both(3, x, 4, raising, raising, raising), both(3, 4, x, raising, raising, raising), bound + resume(0, x), bound + resume(x, 2),
             handle(x), bound + branch(x, 2, raising, raising), bound + branch(2, x, raising, raising), bound + jump(0, 0, 1, [x]),
             bound + jump(0, x, 1, [2]), bound + jump(0, 0, x, [2])):
         add_body(body)
@@ -119,6 +125,8 @@ for x in (35, 36, 255):
 for v in (2, 0, 1, 9):
     for body in (
             duplicate(3, v) + resume(0, 2), difference(3, v, 2) + resume(0, 2), difference(3, 2, v) + resume(0, 2),
+            difference_or_raise(3, v, 2, raising, raising), difference_or_raise(3, 2, v, raising, raising),
+            difference_or_raise(3, 2, 2, handle(v), raising),
             branch(v, 2, raising, raising), branch(2, v, raising, raising), resume(v, 2), resume(0, v), handle(v), jump(0, v, 1, [2]),
             jump(0, 0, v, [2]), jump(0, 0, 1, [v])):
         add_body(body)
@@ -143,6 +151,17 @@ for body in (
         both(5, 5, 6, resume(5, 2), raising, resume(0, 5)), branch(2, 2, constant(3, 1) + resume(0, 3), resume(0, 3))):
     add_body(body)
 
+# The raise part of tag 10 does not see its slot, nor lose what was bound there; the rest does. Names are judged in reading order.
+for body in (
+        difference_or_raise(3, 2, 2, resume(0, 3), raising), difference_or_raise(3, 2, 2, raising, resume(0, 3)),
+        difference_or_raise(2, 2, 2, resume(0, 2), resume(0, 2)), difference_or_raise(1, 2, 2, raising, resume(0, 1)),
+        difference_or_raise(1, 2, 2, raising, raising), difference_or_raise(0, 2, 2, resume(0, 2), raising),
+        difference_or_raise(0, 2, 2, raising, resume(0, 2)), difference_or_raise(36, 36, 9, handle(9), handle(9)),
+        difference_or_raise(3, 9, 36, handle(9), handle(9)), difference_or_raise(3, 2, 36, handle(9), handle(9)),
+        difference_or_raise(3, 2, 2, handle(9), handle(36)), difference_or_raise(3, 2, 2, raising, handle(9)),
+        difference_or_raise(3, 2, 2, constant(4, 1) + resume(0, 4), resume(0, 4))):
+    add_body(body)
+
 # Functions and counts.
 raised = function(2, raising)
 for g in (0, 1, 2, 255, 256, 65535):
@@ -158,7 +177,7 @@ add_body(jump(0, 0, 1, [2] * 255))
 add(target(function(1, handle(9)), function(0, bytes([77]))))
 add(target(function(1, handle(9)), function(0, raising)) + b"\0")
 add(target(function(1, handle(9)), function(0, handle(8))))
-for tag in (0, 10, 128, 255):
+for tag in (0, 10, 11, 128, 255):
     add_body(bytes([tag]))
 
 
@@ -188,14 +207,17 @@ guarded = both(7, 8, 9, jump(1, 7, 9, [2, 3]), branch(2, 3, jump(0, 0, 1, [4, 5]
 rich = target(
     function(2, constant(4, -2147483648) + duplicate(5, 2) + difference(6, 4, 5) + guarded),
     function(2, continuation(4, 5, jump(0, 4, 1, [2, 3]), resume(0, 5))))
-add(rich)
+raises = target(
+    function(2, difference_or_raise(4, 2, 3, difference_or_raise(2, 3, 2, jump(0, 0, 1, [3, 2]), raising), duplicate(5, 4) + resume(0, 5))))
 source = random.Random(7)
-for i in range(len(rich)):
-    for v in (0, 36, rich[i] ^ 1, 255):
-        add(rich[:i] + bytes([v]) + rich[i + 1:])
-    add(rich[:i])
-    add(rich[:i] + rich[i + 1:])
-    add(rich[:i] + bytes([source.randrange(256)]) + rich[i:])
+for file in (rich, raises):
+    add(file)
+    for i in range(len(file)):
+        for v in (0, 36, file[i] ^ 1, 255):
+            add(file[:i] + bytes([v]) + file[i + 1:])
+        add(file[:i])
+        add(file[:i] + file[i + 1:])
+        add(file[:i] + bytes([source.randrange(256)]) + file[i:])
 
 write("target_cases", (little(len(s), 3) + s for s in cases), (answer(s) + "\n" for s in cases))
 print(len(cases), Counter(answer(s).split(" at")[0] for s in cases))

@@ -1,10 +1,10 @@
 #!/usr/bin/env python3
 """Writes the cases of crates/translator_cases and the answers expected: run in the repository's root. Needs
-../shared/vectors/translation.txt.
+translation.txt of ../shared/vectors and of its folder slip-2.
 
 The answers come from tools/procedure.py. Where a vector gives the translation, the model must give the same.
 """
-from procedure import LIMIT, Function, T, call, difference, duplicate, goto, throw, translation, written
+from procedure import LIMIT, Function, T, call, difference, differs, duplicate, goto, throw, translation, written
 from records import Refused, agree, little, vectors, write
 
 cases = []
@@ -14,9 +14,12 @@ def add(file, room):
     cases.append((file, room))
 
 
-for file, given in vectors("translation.txt"):
-    agree(file.hex(), given, translation(file).hex())
-    add(file, len(given) // 2)
+for name in ("translation.txt", "slip-2/translation.txt"):
+    for file, given in vectors(name):
+        made = translation(file).hex()
+        if name != "translation.txt" or not differs(file):
+            agree(file.hex(), given, made)
+        add(file, len(made) // 2)
 
 # Room for the translation of T exactly, one byte too few, none, and more: what stands behind the translation is kept.
 for room in (106, 105, 0, 300):
@@ -29,9 +32,9 @@ def filled(length):
         block = [call(0, 1, [])] * 1255 + [duplicate(0, 1)] * copies + [difference(0, 1, 2)] * differences + [throw]
         return written(Function(8, 24, [goto(1)], (1, block)), Function(0, 0, [throw]))
 
-    left = length - len(translation(made(0, 0)))
-    differences = next(n for n in range(left) if (left - 4 * n) % 3 == 0)
-    return made((left - 4 * differences) // 3, differences)
+    none, one = (len(translation(made(0, n))) for n in (0, 1))
+    differences = next(n for n in range(length) if (length - none - (one - none) * n) % 3 == 0)
+    return made((length - none - (one - none) * differences) // 3, differences)
 
 
 # A translation of 65,535 bytes is the longest: 16 for one byte of room too few. One byte more is refused with 17, whatever the room.
