@@ -1,4 +1,4 @@
--- Figure 2: the bench machine, as document 01 states it ('How the bench moves').
+-- Figure 2: the bench machine, as document 01 states it ('How the bench moves'), and document 02 (Slip 2) for a difference out of range.
 -- The figure's two stacks F and E are one list here, newest frame first: a frame keeps its caller's handler, and the frames that have one are E.
 use Prim.Native.Nat.{ℕ, zero, suc}
 use mathlib.Core.Bool.{cond}
@@ -73,7 +73,8 @@ begun f F args fs = state f 0 (F .entry) (args ++ replicate (F .locals) (pos 0))
 abbrev pub within : {S : Type 0} → ℕ → ℕ → Outcome S → Outcome S
 within d n o = cond (leb d n) tooDeep o
 
--- One step of the bench, under the depth limit d. Each operation is one step.
+-- One step of the bench, under the depth limit d. Each operation is one step. "An out-of-range difference raises, in place, and its target keeps
+-- its value."
 unfoldable pub step : Program → ℕ → State → Outcome State
 step P d (state f h (constant x i b) vs fs) = next (state f h b (set vs x i) fs)
 step P d (state f h (copy x y b) vs fs) = given (getElem? vs y) (λ v. next (state f h b (set vs x v) fs))

@@ -1,5 +1,6 @@
 -- Figure 7: the translation, with document 01's correction (after a call under handler L the continuation is translated under L, where
--- the figure drops it), its slots and its order of functions.
+-- the figure drops it), its slots and its order of functions; and document 02's (Slip 2): a difference becomes tag 10, whose raise part "is what a
+-- raise there would become".
 use Prim.Native.Nat.{ℕ, zero, suc, _+_}
 use mathlib.Core.List.{List, [], _∷_, _++_, map}
 use lib.IntN.{pos}
