@@ -9,7 +9,7 @@ use lib.ListN.{length, getD}
 use Rattle.parsing.specs.declared.Refusal.{Refusal}
 use Rattle.parsing.specs.declared.Checked.{Checked}
 use Rattle.parsing.specs.declared.Checked.the-variants.{Accepted, Refused}
-use Rattle.parsing.specs.Parser.{Verdict, accepted, refused, verdictOf}
+use Rattle.parsing.specs.Parser.{accepted, refused, verdictOf}
 use Rattle.target_tags.proofs.tag.Tag.{the-type}
 use Rattle.target_tags.specs.declared.tag.Tag.{Tag}
 use Rattle.target_tags.specs.declared.tag.Tag.the-variants.{Jump}

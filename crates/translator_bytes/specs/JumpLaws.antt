@@ -58,8 +58,22 @@ module _ {s : List ℕ} {at n o₀ : ℕ} {d₀ : List ℕ} {i o : ℕ} {d : Lis
   pub passing-done : n ≤ i → Wrote o₀ (map slotOf (argumentsAt s at n)) d₀ o d
   passing-done h = let l : length (argumentsAt s at n) ≡ n = K .ready .long in rest-done (K .rest) (ap (map slotOf) (drop-of-length-le (argumentsAt s at n) {i = i} (omega arith)))
 
--- Forms of several parts, as they are written one behind the other.
--- The slot of a variable x is t.
+-- A front, a length, and the part that it is the length of, as they are written one behind the other.
+module _ (front part : List ℕ) {n o j : ℕ} {d : List ℕ} (e : j ≡ n) (R : Room o (front ++ (pairBytes n ++ part)) d) {a : ℕ} {d₁ : List ℕ} (W : Wrote o front d a d₁) where
+  behind : Room a (pairBytes n ++ part) d₁
+  behind = room-back front (pairBytes n ++ part) R W
+
+  length-room : Room a (pairBytes j) d₁
+  length-room = pair-room e (room-front (pairBytes n) part behind)
+
+  module _ {b : ℕ} {d₂ : List ℕ} (X : Wrote a (pairBytes j) d₁ b d₂) where
+    part-room : Room b part d₂
+    part-room = room-back (pairBytes n) part behind (pair-as e X)
+
+    part-wrote : {r : ℕ} {d₃ : List ℕ} → Wrote b part d₂ r d₃ → Wrote o (front ++ (pairBytes n ++ part)) d r d₃
+    part-wrote Y = wrote-both front (pairBytes n ++ part) R W (wrote-both (pairBytes n) part behind (pair-as e X) Y)
+
+-- Forms of several parts. The slot of a variable x is t.
 module _ (v x g n : ℕ) (ys : List ℕ) {t o j : ℕ} {d : List ℕ} (et : t ≡ x + 2) (e : j ≡ 6 + n) (R : Room o (plainCall v x g n ys) d) where
   whole : Room o ((8 ∷ (v + 2) ∷ t ∷ []) ++ (pairBytes (6 + n) ++ callJump g (v + 2) 1 n ys)) d
   unfolding plainCall
@@ -69,64 +83,51 @@ module _ (v x g n : ℕ) (ys : List ℕ) {t o j : ℕ} {d : List ℕ} (et : t �
   plain-room = room-front (8 ∷ (v + 2) ∷ t ∷ []) (pairBytes (6 + n) ++ callJump g (v + 2) 1 n ys) whole
 
   module _ {a : ℕ} {d₁ : List ℕ} (W : Wrote o (8 ∷ (v + 2) ∷ t ∷ []) d a d₁) where
-    behind : Room a (pairBytes (6 + n) ++ callJump g (v + 2) 1 n ys) d₁
-    behind = room-back (8 ∷ (v + 2) ∷ t ∷ []) (pairBytes (6 + n) ++ callJump g (v + 2) 1 n ys) whole W
-
     pub plain-pair-room : Room a (pairBytes j) d₁
-    plain-pair-room = pair-room e (room-front (pairBytes (6 + n)) (callJump g (v + 2) 1 n ys) behind)
+    plain-pair-room = length-room (8 ∷ (v + 2) ∷ t ∷ []) (callJump g (v + 2) 1 n ys) e whole W
 
     module _ {b : ℕ} {d₂ : List ℕ} (X : Wrote a (pairBytes j) d₁ b d₂) where
       pub plain-jump-room : Room b (callJump g (v + 2) 1 n ys) d₂
-      plain-jump-room = room-back (pairBytes (6 + n)) (callJump g (v + 2) 1 n ys) behind (pair-as e X)
+      plain-jump-room = part-room (8 ∷ (v + 2) ∷ t ∷ []) (callJump g (v + 2) 1 n ys) e whole W X
 
       pub plain-wrote : {r : ℕ} {d₃ : List ℕ} → Wrote b (callJump g (v + 2) 1 n ys) d₂ r d₃ → Wrote o (plainCall v x g n ys) d r d₃
       unfolding plainCall
-      plain-wrote {r} {d₃} Y =
-          rw (← et)
-          (wrote-both (8 ∷ (v + 2) ∷ t ∷ []) (pairBytes (6 + n) ++ callJump g (v + 2) 1 n ys) whole W
-          (wrote-both (pairBytes (6 + n)) (callJump g (v + 2) 1 n ys) behind (pair-as e X) Y))
+      plain-wrote Y = rw (← et) (part-wrote (8 ∷ (v + 2) ∷ t ∷ []) (callJump g (v + 2) 1 n ys) e whole W X Y)
 
 module _ (base v h x g n : ℕ) (ys : List ℕ) {t o j k : ℕ} {d : List ℕ} (et : t ≡ x + 2) (e : j ≡ 6 + n) (ek : k ≡ 6 + v) (R : Room o (guardedCall base v h x g n ys) d) where
-  all : Room o ((9 ∷ (v + 2) ∷ t ∷ (v + 3) ∷ []) ++ (pairBytes (6 + n) ++ (callJump g (v + 2) (v + 3) n ys ++ (pairBytes (6 + v) ++ labelJump base v h)))) d
+  -- What the first length counts, and what follows it.
+  abbrev tail : List ℕ
+  tail = callJump g (v + 2) (v + 3) n ys ++ (pairBytes (6 + v) ++ labelJump base v h)
+
+  all : Room o ((9 ∷ (v + 2) ∷ t ∷ (v + 3) ∷ []) ++ (pairBytes (6 + n) ++ tail)) d
   unfolding guardedCall
   all = rw et R
 
   pub guarded-room : Room o (9 ∷ (v + 2) ∷ t ∷ (v + 3) ∷ []) d
-  guarded-room = room-front (9 ∷ (v + 2) ∷ t ∷ (v + 3) ∷ []) (pairBytes (6 + n) ++ (callJump g (v + 2) (v + 3) n ys ++ (pairBytes (6 + v) ++ labelJump base v h))) all
+  guarded-room = room-front (9 ∷ (v + 2) ∷ t ∷ (v + 3) ∷ []) (pairBytes (6 + n) ++ tail) all
 
   module _ {a : ℕ} {d₁ : List ℕ} (W : Wrote o (9 ∷ (v + 2) ∷ t ∷ (v + 3) ∷ []) d a d₁) where
-    second : Room a (pairBytes (6 + n) ++ (callJump g (v + 2) (v + 3) n ys ++ (pairBytes (6 + v) ++ labelJump base v h))) d₁
-    second = room-back (9 ∷ (v + 2) ∷ t ∷ (v + 3) ∷ []) (pairBytes (6 + n) ++ (callJump g (v + 2) (v + 3) n ys ++ (pairBytes (6 + v) ++ labelJump base v h))) all W
-
     pub guarded-pair-room : Room a (pairBytes j) d₁
-    guarded-pair-room = pair-room e (room-front (pairBytes (6 + n)) (callJump g (v + 2) (v + 3) n ys ++ (pairBytes (6 + v) ++ labelJump base v h)) second)
+    guarded-pair-room = length-room (9 ∷ (v + 2) ∷ t ∷ (v + 3) ∷ []) tail e all W
 
     module _ {b : ℕ} {d₂ : List ℕ} (X : Wrote a (pairBytes j) d₁ b d₂) where
-      third : Room b (callJump g (v + 2) (v + 3) n ys ++ (pairBytes (6 + v) ++ labelJump base v h)) d₂
-      third = room-back (pairBytes (6 + n)) (callJump g (v + 2) (v + 3) n ys ++ (pairBytes (6 + v) ++ labelJump base v h)) second (pair-as e X)
+      rest-room : Room b tail d₂
+      rest-room = part-room (9 ∷ (v + 2) ∷ t ∷ (v + 3) ∷ []) tail e all W X
 
       pub guarded-jump-room : Room b (callJump g (v + 2) (v + 3) n ys) d₂
-      guarded-jump-room = room-front (callJump g (v + 2) (v + 3) n ys) (pairBytes (6 + v) ++ labelJump base v h) third
+      guarded-jump-room = room-front (callJump g (v + 2) (v + 3) n ys) (pairBytes (6 + v) ++ labelJump base v h) rest-room
 
       module _ {c : ℕ} {d₃ : List ℕ} (Y : Wrote b (callJump g (v + 2) (v + 3) n ys) d₂ c d₃) where
-        fourth : Room c (pairBytes (6 + v) ++ labelJump base v h) d₃
-        fourth = room-back (callJump g (v + 2) (v + 3) n ys) (pairBytes (6 + v) ++ labelJump base v h) third Y
-
         pub guarded-length-room : Room c (pairBytes k) d₃
-        guarded-length-room = pair-room ek (room-front (pairBytes (6 + v)) (labelJump base v h) fourth)
+        guarded-length-room = length-room (callJump g (v + 2) (v + 3) n ys) (labelJump base v h) ek rest-room Y
 
         module _ {f : ℕ} {d₄ : List ℕ} (Z : Wrote c (pairBytes k) d₃ f d₄) where
           pub guarded-label-room : Room f (labelJump base v h) d₄
-          guarded-label-room = room-back (pairBytes (6 + v)) (labelJump base v h) fourth (pair-as ek Z)
+          guarded-label-room = part-room (callJump g (v + 2) (v + 3) n ys) (labelJump base v h) ek rest-room Y Z
 
           pub guarded-wrote : {r : ℕ} {d₅ : List ℕ} → Wrote f (labelJump base v h) d₄ r d₅ → Wrote o (guardedCall base v h x g n ys) d r d₅
           unfolding guardedCall
-          guarded-wrote Q =
-              rw (← et)
-              (wrote-both (9 ∷ (v + 2) ∷ t ∷ (v + 3) ∷ []) (pairBytes (6 + n) ++ (callJump g (v + 2) (v + 3) n ys ++ (pairBytes (6 + v) ++ labelJump base v h))) all W
-              (wrote-both (pairBytes (6 + n)) (callJump g (v + 2) (v + 3) n ys ++ (pairBytes (6 + v) ++ labelJump base v h)) second (pair-as e X)
-              (wrote-both (callJump g (v + 2) (v + 3) n ys) (pairBytes (6 + v) ++ labelJump base v h) third Y
-              (wrote-both (pairBytes (6 + v)) (labelJump base v h) fourth (pair-as ek Z) Q))))
+          guarded-wrote Q = rw (← et) (part-wrote (9 ∷ (v + 2) ∷ t ∷ (v + 3) ∷ []) tail e all W X (part-wrote (callJump g (v + 2) (v + 3) n ys) (labelJump base v h) ek rest-room Y Z Q))
 
 module _ (base v y z l m : ℕ) {t u o j : ℕ} {d : List ℕ} (et : t ≡ y + 2) (eu : u ≡ z + 2) (e : j ≡ 6 + v) (R : Room o (branchBytes base v y z l m) d) where
   entire : Room o ((7 ∷ t ∷ u ∷ []) ++ (pairBytes (6 + v) ++ (labelJump base v l ++ labelJump base v m))) d
@@ -137,30 +138,25 @@ module _ (base v y z l m : ℕ) {t u o j : ℕ} {d : List ℕ} (et : t ≡ y + 2
   branch-room = room-front (7 ∷ t ∷ u ∷ []) (pairBytes (6 + v) ++ (labelJump base v l ++ labelJump base v m)) entire
 
   module _ {a : ℕ} {d₁ : List ℕ} (W : Wrote o (7 ∷ t ∷ u ∷ []) d a d₁) where
-    lengthRoom : Room a (pairBytes (6 + v) ++ (labelJump base v l ++ labelJump base v m)) d₁
-    lengthRoom = room-back (7 ∷ t ∷ u ∷ []) (pairBytes (6 + v) ++ (labelJump base v l ++ labelJump base v m)) entire W
-
     pub branch-pair-room : Room a (pairBytes j) d₁
-    branch-pair-room = pair-room e (room-front (pairBytes (6 + v)) (labelJump base v l ++ labelJump base v m) lengthRoom)
+    branch-pair-room = length-room (7 ∷ t ∷ u ∷ []) (labelJump base v l ++ labelJump base v m) e entire W
 
     module _ {b : ℕ} {d₂ : List ℕ} (X : Wrote a (pairBytes j) d₁ b d₂) where
-      tailRoom : Room b (labelJump base v l ++ labelJump base v m) d₂
-      tailRoom = room-back (pairBytes (6 + v)) (labelJump base v l ++ labelJump base v m) lengthRoom (pair-as e X)
+      both-room : Room b (labelJump base v l ++ labelJump base v m) d₂
+      both-room = part-room (7 ∷ t ∷ u ∷ []) (labelJump base v l ++ labelJump base v m) e entire W X
 
       pub branch-then-room : Room b (labelJump base v l) d₂
-      branch-then-room = room-front (labelJump base v l) (labelJump base v m) tailRoom
+      branch-then-room = room-front (labelJump base v l) (labelJump base v m) both-room
 
       module _ {c : ℕ} {d₃ : List ℕ} (Y : Wrote b (labelJump base v l) d₂ c d₃) where
         pub branch-else-room : Room c (labelJump base v m) d₃
-        branch-else-room = room-back (labelJump base v l) (labelJump base v m) tailRoom Y
+        branch-else-room = room-back (labelJump base v l) (labelJump base v m) both-room Y
 
         pub branch-wrote : {r : ℕ} {d₄ : List ℕ} → Wrote c (labelJump base v m) d₃ r d₄ → Wrote o (branchBytes base v y z l m) d r d₄
         unfolding branchBytes
         branch-wrote Q =
             rw (← et, ← eu)
-            (wrote-both (7 ∷ t ∷ u ∷ []) (pairBytes (6 + v) ++ (labelJump base v l ++ labelJump base v m)) entire W
-            (wrote-both (pairBytes (6 + v)) (labelJump base v l ++ labelJump base v m) lengthRoom (pair-as e X)
-            (wrote-both (labelJump base v l) (labelJump base v m) tailRoom Y Q)))
+            (part-wrote (7 ∷ t ∷ u ∷ []) (labelJump base v l ++ labelJump base v m) e entire W X (wrote-both (labelJump base v l) (labelJump base v m) both-room Y Q))
 
 module _ (base v h x y z : ℕ) {t u w o j : ℕ} {d : List ℕ} (et : t ≡ x + 2) (eu : u ≡ y + 2) (ew : w ≡ z + 2) (e : j ≡ raiseSize v h) (R : Room o (differenceBytes base v h x y z) d) where
   full : Room o ((10 ∷ t ∷ u ∷ w ∷ []) ++ (pairBytes (raiseSize v h) ++ raiseBytes base v h)) d
@@ -171,22 +167,16 @@ module _ (base v h x y z : ℕ) {t u w o j : ℕ} {d : List ℕ} (et : t ≡ x +
   difference-room = room-front (10 ∷ t ∷ u ∷ w ∷ []) (pairBytes (raiseSize v h) ++ raiseBytes base v h) full
 
   module _ {a : ℕ} {d₁ : List ℕ} (W : Wrote o (10 ∷ t ∷ u ∷ w ∷ []) d a d₁) where
-    partRoom : Room a (pairBytes (raiseSize v h) ++ raiseBytes base v h) d₁
-    partRoom = room-back (10 ∷ t ∷ u ∷ w ∷ []) (pairBytes (raiseSize v h) ++ raiseBytes base v h) full W
-
     pub difference-pair-room : Room a (pairBytes j) d₁
-    difference-pair-room = pair-room e (room-front (pairBytes (raiseSize v h)) (raiseBytes base v h) partRoom)
+    difference-pair-room = length-room (10 ∷ t ∷ u ∷ w ∷ []) (raiseBytes base v h) e full W
 
     module _ {b : ℕ} {d₂ : List ℕ} (X : Wrote a (pairBytes j) d₁ b d₂) where
       pub difference-raise-room : Room b (raiseBytes base v h) d₂
-      difference-raise-room = room-back (pairBytes (raiseSize v h)) (raiseBytes base v h) partRoom (pair-as e X)
+      difference-raise-room = part-room (10 ∷ t ∷ u ∷ w ∷ []) (raiseBytes base v h) e full W X
 
       pub difference-wrote : {r : ℕ} {d₃ : List ℕ} → Wrote b (raiseBytes base v h) d₂ r d₃ → Wrote o (differenceBytes base v h x y z) d r d₃
       unfolding differenceBytes
-      difference-wrote Q =
-          rw (← et, ← eu, ← ew)
-          (wrote-both (10 ∷ t ∷ u ∷ w ∷ []) (pairBytes (raiseSize v h) ++ raiseBytes base v h) full W
-          (wrote-both (pairBytes (raiseSize v h)) (raiseBytes base v h) partRoom (pair-as e X) Q))
+      difference-wrote Q = rw (← et, ← eu, ← ew) (part-wrote (10 ∷ t ∷ u ∷ w ∷ []) (raiseBytes base v h) e full W X Q)
 
 -- By the handler in force.
 module _ (base v h x g n : ℕ) (ys : List ℕ) where
