@@ -8,7 +8,7 @@ use Rattle.parsing.specs.declared.Scan.the-variants.{Past, Stopped}
 use Rattle.parsing.specs.Parser.{refusal, Parsed, read, refuse, pastOf, Verdict, accepted, refused}
 use Rattle.target_tags.specs.declared.tag.Tag.{Tag}
 use Rattle.target_tags.specs.declared.tag.Tag.the-variants.{Constant, Copy, Difference, Jump, Resume, Handle, Branch, Continuation, ContinuationWithHandler, DifferenceOrRaise, Refused}
-use Rattle.target_slots.specs.Slots.{bound}
+use Rattle.target_slots.specs.Slots.{continuationKind, handlerKind, bound}
 use Rattle.target_names.specs.Names.{judged}
 use Rattle.target_parts.specs.declared.parts.After.{After}
 use Rattle.target_parts.specs.declared.parts.After.the-variants.{Onward, Bound, Ended, Halted}
@@ -41,7 +41,7 @@ module _ (names : Bool) (ps s : List ℕ) where
 
   unfoldable pub continuationWithHandlerEnd : ℕ → List ℕ → ℕ → ℕ → ℕ → ℕ → ℕ → Scan
   continuationWithHandlerEnd level ks at x t n next =
-      thenPast (partEnd level (bound (bound ks x 2) t 3) (at + 4) next n) (λ m. handlerEnd level ks m)
+      thenPast (partEnd level (bound (bound ks x continuationKind) t handlerKind) (at + 4) next n) (λ m. handlerEnd level ks m)
 
   -- The end of a node with its nested parts.
   unfoldable pub partsEnd : ℕ → List ℕ → ℕ → Tag → Scan
@@ -52,7 +52,7 @@ module _ (names : Bool) (ps s : List ℕ) where
   partsEnd level ks at (Resume k y next) = Past next
   partsEnd level ks at (Handle h next) = Past next
   partsEnd level ks at (Branch y z n next) = partEnd level ks (at + 3) next n
-  partsEnd level ks at (Continuation x p n next) = partEnd level (bound ks x 2) (at + 3) next n
+  partsEnd level ks at (Continuation x p n next) = partEnd level (bound ks x continuationKind) (at + 3) next n
   partsEnd level ks at (ContinuationWithHandler x p t n next) = continuationWithHandlerEnd level ks at x t n next
   partsEnd level ks at (DifferenceOrRaise x y z n next) = partEnd level ks (at + 4) next n
   partsEnd level ks at (Refused r) = Stopped r

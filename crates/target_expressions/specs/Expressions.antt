@@ -10,7 +10,7 @@ use Rattle.parsing.specs.Fields.{cut}
 use Rattle.target_tags.specs.declared.tag.Tag.{Tag}
 use Rattle.target_tags.specs.declared.tag.Tag.the-variants.{Constant, Copy, Difference, Jump, Resume, Handle, Branch, Continuation, ContinuationWithHandler, DifferenceOrRaise, Refused}
 use Rattle.target_tags.specs.Tag.{tagAt}
-use Rattle.target_slots.specs.Slots.{bound}
+use Rattle.target_slots.specs.Slots.{wholeKind, continuationKind, handlerKind, bound}
 use Rattle.target_names.specs.Names.{judged}
 use Rattle.target_parts.specs.Parts.{measured, sized, levelVerdict}
 
@@ -58,9 +58,9 @@ nodeOf s ks at (Jump g k h n next) = found next (ends (jump g k h (slotsAt s (at
 nodeOf s ks at (Resume k y next) = found next (ends (resume k y))
 nodeOf s ks at (Handle h next) = found next (ends (handle h))
 nodeOf s ks at (Branch y z n next) = found next (part (at + 3) n ks (λ e. goesOn (ifAtMost y z e)))
-nodeOf s ks at (Continuation x p n next) = found next (part (at + 3) n (bound ks x 2) (λ e. goesOnBound p (letContinuation x p e)))
+nodeOf s ks at (Continuation x p n next) = found next (part (at + 3) n (bound ks x continuationKind) (λ e. goesOnBound p (letContinuation x p e)))
 nodeOf s ks at (ContinuationWithHandler x p t n next) =
-    found next (part (at + 4) n (bound (bound ks x 2) t 3) (λ e. sizedPart ks (λ h. goesOnBound p (letContinuationWithHandler x p t e h))))
+    found next (part (at + 4) n (bound (bound ks x continuationKind) t handlerKind) (λ e. sizedPart ks (λ h. goesOnBound p (letContinuationWithHandler x p t e h))))
 nodeOf s ks at (DifferenceOrRaise x y z n next) = found next (part (at + 4) n ks (λ r. goesOnBound x (letDifferenceOrRaise x y z r)))
 nodeOf s ks at (Refused r) = missing r
 
@@ -68,7 +68,7 @@ nodeOf s ks at (Refused r) = missing r
 abbrev pub readBehind : List ℕ → Reading → ℕ → List ℕ → ℕ → Behind → Parsed Expr
 readBehind s inner level ks at (ends e) = read e at
 readBehind s inner level ks at (goesOn f) = before f (inner level ks at)
-readBehind s inner level ks at (goesOnBound x f) = before f (inner level (bound ks x 1) at)
+readBehind s inner level ks at (goesOnBound x f) = before f (inner level (bound ks x wholeKind) at)
 readBehind s inner level ks at (part place n kinds f) =
     andThen (measured place at n (nested s inner level kinds at)) (λ e m. readBehind s inner level ks m (f e))
 readBehind s inner level ks at (sizedPart kinds f) =

@@ -40,7 +40,7 @@ fn expression_end(
                 at = next;
             }
             After::Bound { next, slot } => {
-                let tail = slots::bind(seen, slot, 1);
+                let tail = slots::bind(seen, slot, slots::WHOLE_KIND);
                 seen = tail;
                 at = next;
             }
@@ -101,7 +101,7 @@ fn parts_end(
             next,
             ..
         } => {
-            let rest = slots::bind(kinds, slot, 2);
+            let rest = slots::bind(kinds, slot, slots::CONTINUATION_KIND);
             part_end(file, params, names, level, rest, next, size, at + 3)
         }
         Tag::ContinuationWithHandler {
@@ -147,7 +147,11 @@ fn continuation_with_handler_end(
     requires { ⌜ next ≤ length (now file) ⌝ }
     ensures { λ r. ⌜ r ≡ continuationWithHandlerEnd names (now (params .entry)) (now (file .entry)) level kinds at slot handler size next ⌝ }
 {
-    let rest = slots::bind(slots::bind(kinds, slot, 2), handler, 3);
+    let rest = slots::bind(
+        slots::bind(kinds, slot, slots::CONTINUATION_KIND),
+        handler,
+        slots::HANDLER_KIND,
+    );
     match part_end(file, params, names, level, rest, next, size, at + 4) {
         Scan::Stopped(r) => Scan::Stopped(r),
         Scan::Past(middle) => match parts::size_at(file, middle) {

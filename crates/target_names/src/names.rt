@@ -4,6 +4,9 @@ use parsing::Checked;
 use parsing::or_else;
 use parsing::refusals;
 use parsing::refused_unless;
+use target_slots::slots::CONTINUATION_KIND;
+use target_slots::slots::HANDLER_KIND;
+use target_slots::slots::WHOLE_KIND;
 use target_slots::slots::binds_slot;
 use target_slots::slots::differs;
 use target_slots::slots::reads_slot;
@@ -15,7 +18,7 @@ ghost use lib.ListN.{length, getD};
 ghost use Prim.Native.Nat.{ℕ, _+_, _≤_};
 ghost use Rattle.parsing.specs.Parser.{orElse, verdictOf};
 ghost use Rattle.target_tags.specs.Tag.{fileLimit};
-ghost use Rattle.target_slots.specs.Slots.{binds, reads};
+ghost use Rattle.target_slots.specs.Slots.{wholeKind, continuationKind, binds, reads};
 ghost use Rattle.target_names.specs.Standing.{Stands, NoJump};
 ghost use Rattle.target_names.specs.Names.{function, arity, values, differenceNames, jumpNames, continuationWithHandlerNames, namesOf, judged};
 
@@ -55,7 +58,7 @@ fn reads_values(file: &[u8], kinds: [u8; MAX_SLOTS], start: usize, count: usize)
     let mut left = count;
     while 0 < left {
         left -= 1;
-        match reads_slot(kinds, 1, byte_number(file[at]), at) {
+        match reads_slot(kinds, WHOLE_KIND, byte_number(file[at]), at) {
             Checked::Refused(r) => {
                 return Checked::Refused(r);
             }
@@ -70,9 +73,12 @@ fn reads_values(file: &[u8], kinds: [u8; MAX_SLOTS], start: usize, count: usize)
 // The names of tag 2.
 fn names_copy(kinds: [u8; MAX_SLOTS], at: usize, slot: usize, from: usize) -> Checked
     requires { ⌜ at ≤ fileLimit ⌝ }
-    ensures { λ r. ⌜ verdictOf r ≡ orElse (binds (at + 1) slot) (reads kinds 1 (at + 2) from) ⌝ }
+    ensures { λ r. ⌜ verdictOf r ≡ orElse (binds (at + 1) slot) (reads kinds wholeKind (at + 2) from) ⌝ }
 {
-    or_else(binds_slot(slot, at + 1), reads_slot(kinds, 1, from, at + 2))
+    or_else(
+        binds_slot(slot, at + 1),
+        reads_slot(kinds, WHOLE_KIND, from, at + 2),
+    )
 }
 
 // The names of tags 3 and 10, in reading order.
@@ -87,8 +93,8 @@ fn names_difference(
     ensures { λ r. ⌜ verdictOf r ≡ differenceNames kinds at slot left right ⌝ }
 {
     let read = or_else(
-        reads_slot(kinds, 1, left, at + 2),
-        reads_slot(kinds, 1, right, at + 3),
+        reads_slot(kinds, WHOLE_KIND, left, at + 2),
+        reads_slot(kinds, WHOLE_KIND, right, at + 3),
     );
     or_else(binds_slot(slot, at + 1), read)
 }
@@ -108,8 +114,8 @@ fn names_jump(
 {
     let goal = names_function(params, number, at + 1);
     let ends = or_else(
-        reads_slot(kinds, 2, continuation, at + 3),
-        reads_slot(kinds, 3, handler, at + 4),
+        reads_slot(kinds, CONTINUATION_KIND, continuation, at + 3),
+        reads_slot(kinds, HANDLER_KIND, handler, at + 4),
     );
     or_else(or_else(goal, ends), counts(params, number, count, at + 5))
 }
@@ -117,22 +123,22 @@ fn names_jump(
 // The names of tag 5.
 fn names_resume(kinds: [u8; MAX_SLOTS], at: usize, continuation: usize, value: usize) -> Checked
     requires { ⌜ at ≤ fileLimit ⌝ }
-    ensures { λ r. ⌜ verdictOf r ≡ orElse (reads kinds 2 (at + 1) continuation) (reads kinds 1 (at + 2) value) ⌝ }
+    ensures { λ r. ⌜ verdictOf r ≡ orElse (reads kinds continuationKind (at + 1) continuation) (reads kinds wholeKind (at + 2) value) ⌝ }
 {
     or_else(
-        reads_slot(kinds, 2, continuation, at + 1),
-        reads_slot(kinds, 1, value, at + 2),
+        reads_slot(kinds, CONTINUATION_KIND, continuation, at + 1),
+        reads_slot(kinds, WHOLE_KIND, value, at + 2),
     )
 }
 
 // The names of tag 7.
 fn names_branch(kinds: [u8; MAX_SLOTS], at: usize, left: usize, right: usize) -> Checked
     requires { ⌜ at ≤ fileLimit ⌝ }
-    ensures { λ r. ⌜ verdictOf r ≡ orElse (reads kinds 1 (at + 1) left) (reads kinds 1 (at + 2) right) ⌝ }
+    ensures { λ r. ⌜ verdictOf r ≡ orElse (reads kinds wholeKind (at + 1) left) (reads kinds wholeKind (at + 2) right) ⌝ }
 {
     or_else(
-        reads_slot(kinds, 1, left, at + 1),
-        reads_slot(kinds, 1, right, at + 2),
+        reads_slot(kinds, WHOLE_KIND, left, at + 1),
+        reads_slot(kinds, WHOLE_KIND, right, at + 2),
     )
 }
 
@@ -181,7 +187,7 @@ fn names_of_slots(kinds: [u8; MAX_SLOTS], at: usize, tag: Tag) -> Checked
             value,
             ..
         } => names_resume(kinds, at, continuation, value),
-        Tag::Handle { handler, .. } => reads_slot(kinds, 3, handler, at + 1),
+        Tag::Handle { handler, .. } => reads_slot(kinds, HANDLER_KIND, handler, at + 1),
         Tag::Branch { left, right, .. } => names_branch(kinds, at, left, right),
         Tag::Continuation {
             slot,

@@ -1,5 +1,4 @@
 -- A slot that is bound or read (document 01, refusals 11 and 13), and the kinds of slots.
--- A slot's kind is a number here: 0 unbound, 1 whole, 2 continuation, 3 handler. The list has the kinds of slots 0 to 35.
 use Prim.Native.Nat.{ℕ, zero, suc, _+_}
 use mathlib.Core.Bool.{cond, not}
 use mathlib.Core.List.{List, _∷_}
@@ -9,13 +8,26 @@ use Rattle.parsing.specs.Refusals.{unboundSlot, wrongSlot}
 use Rattle.parsing.specs.Parser.{Verdict, orElse, refusedUnless}
 use Rattle.target_tags.specs.Tag.{maxSlots}
 
+-- "Slots are whole, continuation or handler." A kind is a number here, and a list has the kinds of slots 0 to 35.
+abbrev pub unboundKind : ℕ
+unboundKind = 0
+
+abbrev pub wholeKind : ℕ
+wholeKind = 1
+
+abbrev pub continuationKind : ℕ
+continuationKind = 2
+
+abbrev pub handlerKind : ℕ
+handlerKind = 3
+
 -- A slot that is bound: "13 slot above 35".
 unfoldable pub binds : ℕ → ℕ → Verdict
 binds place x = refusedUnless (ltb x maxSlots) wrongSlot place
 
 -- A slot that is read as one of kind k: "11 slot unbound or of another kind"; "at one byte 13 before 11".
 unfoldable pub reads : List ℕ → ℕ → ℕ → ℕ → Verdict
-reads ks k place x = orElse (binds place x) (refusedUnless (eqb (getD ks x 0) k) unboundSlot place)
+reads ks k place x = orElse (binds place x) (refusedUnless (eqb (getD ks x unboundKind) k) unboundSlot place)
 
 -- "tag 9 with equal slots for both (at the handler slot)"
 unfoldable pub differ : ℕ → ℕ → ℕ → Verdict
@@ -27,5 +39,5 @@ bound ks x k = cond (ltb x maxSlots) (set ks x k) ks
 
 -- The kinds with which a function of n parameters begins: continuation, handler, its parameters in slots 2 upward.
 unfoldable pub entryKinds : ℕ → List ℕ
-entryKinds zero = 2 ∷ 3 ∷ replicate 34 0
-entryKinds (suc n) = bound (entryKinds n) (2 + n) 1
+entryKinds zero = continuationKind ∷ handlerKind ∷ replicate 34 unboundKind
+entryKinds (suc n) = bound (entryKinds n) (2 + n) wholeKind

@@ -10,6 +10,15 @@ ghost use Rattle.parsing.specs.Parser.{verdictOf};
 ghost use Rattle.target_tags.specs.Tag.{maxParameters};
 ghost use Rattle.target_slots.specs.Slots.{binds, reads, differ, bound, entryKinds};
 
+// The kinds of slots.
+pub const UNBOUND_KIND: u8 = 0;
+
+pub const WHOLE_KIND: u8 = 1;
+
+pub const CONTINUATION_KIND: u8 = 2;
+
+pub const HANDLER_KIND: u8 = 3;
+
 // A slot that is bound.
 pub fn binds_slot(slot: usize, place: usize) -> Checked
     ensures { λ r. ⌜ verdictOf r ≡ binds place slot ⌝ }
@@ -53,12 +62,12 @@ pub fn entry_kinds(params: usize) -> [u8; MAX_SLOTS]
     requires { ⌜ params ≤ maxParameters ⌝ }
     ensures { λ r. ⌜ r ≡ entryKinds params ⌝ }
 {
-    let mut kinds = [0u8; MAX_SLOTS];
-    kinds[0] = 2;
-    kinds[1] = 3;
+    let mut kinds = [UNBOUND_KIND; MAX_SLOTS];
+    kinds[0] = CONTINUATION_KIND;
+    kinds[1] = HANDLER_KIND;
     let mut i = 0;
     while i < params {
-        kinds = bind(kinds, 2 + i, 1);
+        kinds = bind(kinds, 2 + i, WHOLE_KIND);
         i += 1;
     }
     kinds
