@@ -1,6 +1,6 @@
 #!/usr/bin/env python3
 """Writes the cases of crates/controller_cases and the answers expected: run in the repository's root. Needs target.txt of
-../shared/vectors and of its folder slip-2.
+../shared/vectors and of its folders slip-2 and slip-3.
 
 The answers come from tools/target.py. Where a vector gives a refusal or a run, the model must give the same.
 """
@@ -9,7 +9,7 @@ from collections import Counter
 from procedure import T as PROCEDURE
 from procedure import translation
 from records import GREATEST, LEAST, Refused, agree, constant, difference, duplicate, judge_call, little, signed, vectors, write
-from target import both, branch, check, continuation, difference_or_raise, function, handle, jump, resume, run, target
+from target import before_slip_3, both, branch, check, continuation, difference_or_raise, function, handle, jump, resume, run, target
 
 
 def expected(case):
@@ -30,22 +30,26 @@ def add(file, arguments, depth, budget, delta=128):
     cases.append((delta, list(arguments), depth, budget, bytes(file)))
 
 
-# The vectors as they stand, and each accepted file with depth 2 and a small budget.
+# The vectors as they stand, and each accepted file with depth 2 and a small budget. Kept for below: a refused file for each number, of
+# Slip 3's vectors for its own numbers only.
 short = []
 wrong = {}
-for file, *fields in (*vectors("target.txt"), *vectors("slip-2/target.txt")):
-    if len(fields) == 1:
-        add(file, [], 256, 100)
-        given = fields[0]
-        wrong[given.split()[1]] = file
-    else:
-        words = fields[0].split()
-        at = words.index("depth")
-        arguments = [int(w) for w in words[1:at] if w != "-"]
-        add(file, arguments, int(words[at + 1]), int(words[at + 3]))
-        given = fields[1]
-        short.append((file, arguments))
-    agree(file.hex(), given, expected(cases[-1]).split(" records")[0].removesuffix(" kept"))
+for name, told in (("target.txt", before_slip_3), ("slip-2/target.txt", before_slip_3), ("slip-3/target.txt", str)):
+    for file, *fields in vectors(name):
+        if len(fields) == 1:
+            add(file, [], 256, 100)
+            given = fields[0]
+            number = given.split()[1]
+            if told is before_slip_3 or number not in wrong:
+                wrong[number] = file
+        else:
+            words = fields[0].split()
+            at = words.index("depth")
+            arguments = [int(w) for w in words[1:at] if w != "-"]
+            add(file, arguments, int(words[at + 1]), int(words[at + 3]))
+            given = fields[1]
+            short.append((file, arguments))
+        agree(file.hex(), given, told(expected(cases[-1]).split(" records")[0].removesuffix(" kept")))
 
 # File T of document 01, translated.
 T = translation(PROCEDURE)
@@ -194,7 +198,6 @@ for y, z in ((LEAST, 1), (LEAST, 0), (GREATEST, -1), (GREATEST, 0), (GREATEST, L
 each_budget(guarded, [LEAST, 1], 2)
 each_budget(guarded, [LEAST, 0], 2)
 
-assert len(cases) < 900
 write(
     "controller_cases",
     (bytes([delta, len(arguments)]) + little(depth, 2) + little(budget, 8) + little(len(file), 3) + signed(arguments) + file

@@ -1,6 +1,6 @@
 #!/usr/bin/env python3
 """Writes the cases of crates/target_cases and the answers expected: run in the repository's root. Needs target.txt of
-../shared/vectors and of its folder slip-2.
+../shared/vectors and of its folders slip-2 and slip-3.
 
 The answers come from the checker of tools/target.py.
 """
@@ -30,7 +30,7 @@ def answer(file):
         return str(r)
 
 
-for name in ("target.txt", "slip-2/target.txt"):
+for name in ("target.txt", "slip-2/target.txt", "slip-3/target.txt"):
     for file, *_ in vectors(name):
         add(file)
 
@@ -130,6 +130,13 @@ for v in (2, 0, 1, 9):
             branch(v, 2, raising, raising), branch(2, v, raising, raising), resume(v, 2), resume(0, v), handle(v), jump(0, v, 1, [2]),
             jump(0, 0, v, [2]), jump(0, 0, 1, [v])):
         add_body(body)
+
+# Several faults in one node: the first in reading order is told; at one byte 13 first.
+for body in (
+        jump(0, 36, 2, [0]), jump(0, 2, 36, [0]), jump(0, 9, 36, [36]), jump(0, 0, 2, [36]), jump(0, 0, 36, [9]), jump(0, 0, 0, [1, 1]),
+        jump(0, 0, 1, [1, 36]), jump(0, 0, 1, [0, 9]), jump(0, 0, 1, [36]), resume(2, 36), resume(1, 9), resume(9, 0), resume(36, 0),
+        branch(0, 36, raising, raising), branch(9, 1, raising, raising), duplicate(36, 1) + raising, difference(3, 1, 36) + raising):
+    add_body(body)
 
 # Slots bound anew.
 add_body(constant(0, 5) + resume(0, 2))

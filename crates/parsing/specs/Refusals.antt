@@ -41,7 +41,7 @@ missingFunction = 9
 abbrev pub calleeArity : ℕ
 calleeArity = 10
 
--- "11 slot unbound or of another kind."
+-- "Keep 11 for a slot not bound." (Document 01 has 11 for another kind too, which 19 to 21 tell now.)
 abbrev pub unboundSlot : ℕ
 unboundSlot = 11
 
@@ -72,3 +72,15 @@ translationTooLong = 17
 -- "18 at 0 when the run was refused or did not end, or its steps and extras together pass 64 bits."
 abbrev pub noCharge : ℕ
 noCharge = 18
+
+-- "19 when a whole number was needed and another kind is bound."
+abbrev pub notWhole : ℕ
+notWhole = 19
+
+-- "20 when a continuation was needed and another kind is bound."
+abbrev pub notContinuation : ℕ
+notContinuation = 20
+
+-- "21 when a handler was needed and another kind is bound."
+abbrev pub notHandler : ℕ
+notHandler = 21

@@ -20,7 +20,7 @@ pub const MISSING_LABEL: u8 = 8;
 pub const MISSING_FUNCTION: u8 = 9;
 // "10 argument count unlike the callee's (at the count)."
 pub const CALLEE_ARITY: u8 = 10;
-// "11 slot unbound or of another kind."
+// "Keep 11 for a slot not bound." (Document 01 has 11 for another kind too, which 19 to 21 tell now.)
 pub const UNBOUND_SLOT: u8 = 11;
 // "12 length unlike the part read."
 pub const WRONG_LENGTH: u8 = 12;
@@ -36,3 +36,9 @@ pub const NO_ROOM: u8 = 16;
 pub const TRANSLATION_TOO_LONG: u8 = 17;
 // "18 at 0 when the run was refused or did not end, or its steps and extras together pass 64 bits."
 pub const NO_CHARGE: u8 = 18;
+// "19 when a whole number was needed and another kind is bound."
+pub const NOT_WHOLE: u8 = 19;
+// "20 when a continuation was needed and another kind is bound."
+pub const NOT_CONTINUATION: u8 = 20;
+// "21 when a handler was needed and another kind is bound."
+pub const NOT_HANDLER: u8 = 21;

@@ -20,7 +20,7 @@ use Rattle.semantics.specs.SlotRules as rules
 use Rattle.semantics.specs.ListLaws.{put-same, put-other}
 use Rattle.parsing.specs.Parser.{Verdict, accepted, orElse, refusedUnless}
 use Rattle.parsing.specs.VerdictLaws.{or-accepted, unless-accepted}
-use Rattle.target_slots.specs.Slots.{binds, reads, differ, bound, entryKinds}
+use Rattle.target_slots.specs.Slots.{kindRefusal, binds, reads, differ, bound, entryKinds}
 use Rattle.target_names.specs.Names.{function, arity, values, differenceNames}
 use Rattle.target_expressions.specs.Expressions.{slotsAt}
 use Rattle.target_expressions.specs.PartLaws.{impossible}
@@ -114,9 +114,10 @@ module _ {KS : Kinds} {ks : List ℕ} (l : Like KS ks) (k : Kind) (place x : ℕ
   pub reads-right : reads ks (kindNumber k) place x ≡ accepted → IsBound 36 KS k x
   unfolding reads
   reads-right e =
-      let p = or-accepted (binds place x) (refusedUnless (eqb (getD ks x 0) (kindNumber k)) 11 place) e in
+      let number = kindRefusal (kindNumber k) (getD ks x 0) in
+      let p = or-accepted (binds place x) (refusedUnless (eqb (getD ks x 0) (kindNumber k)) number place) e in
       let b = binds-right place x (p .0) in
-      (b, same-kind (kindAt KS x) k (sym (l .same x b) ∙ eqb-true (getD ks x 0) (kindNumber k) (unless-accepted (eqb (getD ks x 0) (kindNumber k)) 11 place (p .1))))
+      (b, same-kind (kindAt KS x) k (sym (l .same x b) ∙ eqb-true (getD ks x 0) (kindNumber k) (unless-accepted (eqb (getD ks x 0) (kindNumber k)) number place (p .1))))
 
   pub reads-holds : IsBound 36 KS k x → reads ks (kindNumber k) place x ≡ accepted
   unfolding reads

@@ -1,4 +1,4 @@
--- The names in a node, in reading order (document 01, refusals 9, 10, 11 and 13).
+-- The names in a node, in reading order (document 01, refusals 9, 10, 11 and 13; document 02, Slip 3, 19 to 21).
 use Prim.Native.Nat.{ℕ, zero, suc, _+_}
 use mathlib.Core.Bool.{Bool, cond}
 use mathlib.Core.List.{List}

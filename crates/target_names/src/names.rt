@@ -1,4 +1,4 @@
-// The names in a node: refusals 9, 10, 11 and 13.
+// The names in a node: refusals 9, 10, 11, 13 and 19 to 21.
 use casts::byte_number;
 use parsing::Checked;
 use parsing::or_else;

@@ -1,10 +1,10 @@
--- A slot that is bound or read (document 01, refusals 11 and 13), and the kinds of slots.
+-- A slot that is bound or read (document 01, refusals 11 and 13; document 02, Slip 3, 19 to 21), and the kinds of slots.
 use Prim.Native.Nat.{ℕ, zero, suc, _+_}
 use mathlib.Core.Bool.{cond, not}
 use mathlib.Core.List.{List, _∷_}
 use lib.Dec.{ltb, eqb}
 use lib.ListN.{getD, set, replicate}
-use Rattle.parsing.specs.Refusals.{unboundSlot, wrongSlot}
+use Rattle.parsing.specs.Refusals.{unboundSlot, wrongSlot, notWhole, notContinuation, notHandler}
 use Rattle.parsing.specs.Parser.{Verdict, orElse, refusedUnless}
 use Rattle.target_tags.specs.Tag.{maxSlots}
 
@@ -25,9 +25,16 @@ handlerKind = 3
 unfoldable pub binds : ℕ → ℕ → Verdict
 binds place x = refusedUnless (ltb x maxSlots) wrongSlot place
 
--- A slot that is read as one of kind k: "11 slot unbound or of another kind"; "at one byte 13 before 11".
+-- The number told for a slot of kind b where another kind k is needed (Slip 3). "Keep 11 for a slot not bound."; "19 when a whole number
+-- was needed and another kind is bound; 20 when a continuation was needed ..; 21 when a handler was needed ..".
+unfoldable pub kindRefusal : ℕ → ℕ → ℕ
+kindRefusal k b =
+    cond (eqb b unboundKind) unboundSlot
+    (cond (eqb k wholeKind) notWhole (cond (eqb k continuationKind) notContinuation notHandler))
+
+-- A slot that is read as one of kind k: "at one byte 13 before 11"; "all three take 11's place in the order".
 unfoldable pub reads : List ℕ → ℕ → ℕ → ℕ → Verdict
-reads ks k place x = orElse (binds place x) (refusedUnless (eqb (getD ks x unboundKind) k) unboundSlot place)
+reads ks k place x = orElse (binds place x) (let b = getD ks x unboundKind in refusedUnless (eqb b k) (kindRefusal k b) place)
 
 -- "tag 9 with equal slots for both (at the handler slot)"
 unfoldable pub differ : ℕ → ℕ → ℕ → Verdict

@@ -7,13 +7,13 @@ use borrow.Author.Tests.{lt-ltb, le-ltb}
 use lib.Dec.{eqb}
 use lib.ListN.{getD}
 use Rattle.parsing.specs.Parser.{refused, refusedUnless}
-use Rattle.target_slots.specs.Slots.{binds, reads, bound, entryKinds}
+use Rattle.target_slots.specs.Slots.{kindRefusal, binds, reads, bound, entryKinds}
 
 -- A slot that is read, within the slots that there are and beyond them.
 module _ (ks : List ℕ) (k place x : ℕ) where
-  pub reads-within : x < 36 → reads ks k place x ≡ refusedUnless (eqb (getD ks x 0) k) 11 place
+  pub reads-within : {n : ℕ} → x < 36 → n ≡ kindRefusal k (getD ks x 0) → refusedUnless (eqb (getD ks x 0) k) n place ≡ reads ks k place x
   unfolding reads binds
-  reads-within h = rw (lt-ltb x 36 h)
+  reads-within h e = rw (lt-ltb x 36 h, e)
 
   pub reads-beyond : 36 ≤ x → reads ks k place x ≡ refused 13 place
   unfolding reads binds

@@ -1,4 +1,4 @@
-// A slot that is bound or read (refusals 11 and 13), and the kinds of slots.
+// A slot that is bound or read (refusals 13, 11, 19 to 21), and the kinds of slots.
 use parsing::Checked;
 use parsing::Refusal;
 use parsing::refusals;
@@ -8,7 +8,7 @@ ghost use mathlib.Core.Path.{_≡_};
 ghost use Prim.Native.Nat.{_≤_};
 ghost use Rattle.parsing.specs.Parser.{verdictOf};
 ghost use Rattle.target_tags.specs.Tag.{maxParameters};
-ghost use Rattle.target_slots.specs.Slots.{binds, reads, differ, bound, entryKinds};
+ghost use Rattle.target_slots.specs.Slots.{kindRefusal, binds, reads, differ, bound, entryKinds};
 
 // The kinds of slots.
 pub const UNBOUND_KIND: u8 = 0;
@@ -26,12 +26,29 @@ pub fn binds_slot(slot: usize, place: usize) -> Checked
     refused_unless(slot < MAX_SLOTS, refusals::WRONG_SLOT, place)
 }
 
+// The number told for a slot of another kind than the one needed.
+fn kind_refusal(needed: u8, bound: u8) -> u8
+    ensures { λ r. ⌜ r ≡ kindRefusal needed bound ⌝ }
+{
+    if bound == UNBOUND_KIND {
+        return refusals::UNBOUND_SLOT;
+    }
+    if needed == WHOLE_KIND {
+        return refusals::NOT_WHOLE;
+    }
+    if needed == CONTINUATION_KIND {
+        return refusals::NOT_CONTINUATION;
+    }
+    refusals::NOT_HANDLER
+}
+
 // A slot that is read as one of a kind.
 pub fn reads_slot(kinds: [u8; MAX_SLOTS], kind: u8, slot: usize, place: usize) -> Checked
     ensures { λ r. ⌜ verdictOf r ≡ reads kinds kind place slot ⌝ }
 {
     if slot < MAX_SLOTS {
-        return refused_unless(kinds[slot] == kind, refusals::UNBOUND_SLOT, place);
+        let bound = kinds[slot];
+        return refused_unless(bound == kind, kind_refusal(kind, bound), place);
     }
     Checked::Refused(Refusal {
         number: refusals::WRONG_SLOT,

@@ -4,18 +4,24 @@ use borrow.Author.Needs.{needs}
 use Rattle.target_slots.proofs.slots.reads_slot.Statement.{statement}
 use Rattle.target_slots.proofs.slots.reads_slot.Tie as tie
 
-array-read-refused-unless : tie.Need-array-read-refused-unless
-array-read-refused-unless c = search needs
+array-read-bound : tie.Need-array-read-bound
+array-read-bound c = search needs
+
+kind-refusal-requires : tie.Need-kind-refusal-requires
+kind-refusal-requires c κs = search needs
 
 refused-unless-requires : tie.Need-refused-unless-requires
 refused-unless-requires c κs = search needs
 
 returns : tie.Need-returns
-returns c = c .refused-unless .ensures ∙ sym (reads-within _ _ _ _ (c .before .if1 .taken))
+returns c =
+    let told = c .before in
+    c .refused-unless .ensures ∙ reads-within _ _ _ _ (told .before .if1 .taken) (told .kind-refusal .ensures)
 
 returns-2 : tie.Need-returns-2
 returns-2 c = sym (reads-beyond _ _ _ _ (c .if1 .left))
 
 pub reads-slot-spec : {M : Type 1} → statement M
 reads-slot-spec =
-    tie.close (tie.spec array-read-refused-unless refused-unless-requires returns returns-2)
+    tie.close
+    (tie.spec array-read-bound kind-refusal-requires refused-unless-requires returns returns-2)
