@@ -19,11 +19,12 @@ use Rattle.memory.specs.CallLaws.{fitting-arguments, fitting-words}
 use Rattle.runs.specs.Stopped.{stoppedAs}
 use Rattle.runs.specs.Tells.{tells, tellsBy, toldOf, ChangedBy}
 use Rattle.runs.specs.TellsLaws.{answered}
+use Rattle.runs.specs.OutputLaws.{lay-front}
 use Rattle.procedure_file.specs.Check.{checkOf, programOf}
 use Rattle.procedure_file.specs.Loaded.{Loaded}
 use Rattle.target_file.specs.Check as Target
 use Rattle.translator.specs.Translated.{translationOf, roomVerdict}
-use Rattle.translator.specs.AnswerLaws.{lay-front, fitting-room}
+use Rattle.translator.specs.AnswerLaws.{fitting-room}
 use Rattle.translator_bytes.specs.Writes.{Room, Wrote}
 use Rattle.bench.specs.declared.machine.Answer as BenchAnswer
 use Rattle.bench.specs.Published as Bench

@@ -2,7 +2,7 @@
 use Prim.Native.Nat.{ℕ, zero, suc, _+_, _-_, _≤_, _<_}
 use mathlib.Core.Path.{_≡_, refl, sym, ap, _∙_}
 use mathlib.Core.Bool.{Bool, true, false, cond}
-use mathlib.Core.List.{List, [], _∷_}
+use mathlib.Core.List.{List, [], _∷_, _++_, append-assoc}
 use native.Mathlib.Omega.{arith}
 use borrow.Author.Tests.{ltb-true, leb-true, lt-ltb, le-ltb}
 use lib.Dec.{leb, ltb}
@@ -10,7 +10,7 @@ use lib.ListN.{length, getD}
 use Rattle.parsing.specs.declared.Refusal.{Refusal}
 use Rattle.parsing.specs.declared.Scan.the-variants.{Past, Stopped}
 use Rattle.parsing.specs.declared.Count.the-variants.{Is, Outside}
-use Rattle.parsing.specs.Parser.{refusal, Parsed, read, refuse, Parser, andThen, many, pastOf}
+use Rattle.parsing.specs.Parser.{refusal, Parsed, read, refuse, Parser, andThen, many, joined, pastOf}
 use Rattle.parsing.specs.Fields.{cut, byte, count, counted}
 
 -- Two constructors that are told equal: `impossible (cc)`.
@@ -147,3 +147,8 @@ module _ {A : Type 0} (p : Parser A) (s : List ℕ) where
   pub many-last : (n at : ℕ) → n ≤ 0 → Past at ≡ pastOf (many n p s at)
   many-last zero at h = refl
   many-last (suc n) at h = absurd (omega arith)
+
+-- Writings one after the other.
+pub joined-append : {A : Type 0} (bytes : A → List ℕ) (xs ys : List A) → joined bytes (xs ++ ys) ≡ joined bytes xs ++ joined bytes ys
+joined-append bytes [] ys = refl
+joined-append bytes (x ∷ xs) ys = ap (λ (w : List ℕ). bytes x ++ w) (joined-append bytes xs ys) ∙ sym (append-assoc (bytes x) (joined bytes xs) (joined bytes ys))

@@ -5,4 +5,5 @@ pub mod Tells
 pub mod Words
 -- Laws.
 pub mod TellsLaws
+pub mod OutputLaws
 pub mod WordsLaws

@@ -4,10 +4,11 @@ use native.Mathlib.Omega.{arith}
 use native.Mathlib.Decide.{decLt}
 use native.Mathlib.Numerals.{add-one}
 use mathlib.Core.Path.{_≡_, refl, sym, ap, _∙_}
-use mathlib.Core.List.{List, [], _∷_, _++_, append-assoc}
+use mathlib.Core.List.{List, [], _∷_, _++_}
 use lib.ListN.{length, getD, set, drop, length-append, length-set, drop-of-length-le}
 use lib.Seq.{drop-cons, getD-set-same, getD-set-other}
 use Rattle.parsing.specs.Parser.{joined}
+use Rattle.parsing.specs.ParserLaws.{joined-append}
 use Rattle.parsing.specs.Bytes.{pairBytes}
 use Rattle.semantics.specs.Program.{Function, Program, variables, functionOf, noFunction}
 use Rattle.semantics.specs.Translation.{targets, number, translateFunction, translateFrom, translate}
@@ -25,10 +26,6 @@ use Rattle.translator_bytes.specs.WriteLaws.{room-front, room-back, wrote-both}
 use Rattle.translator_bytes.specs.JumpLaws.{pair-as, pair-room}
 use Rattle.translator.specs.Standing.{Placed, Numbered}
 use Rattle.translator_sizes.specs.PartLaws.{label-here, label-is}
-
-joined-append : {A : Type 0} (bytes : A → List ℕ) (xs ys : List A) → joined bytes (xs ++ ys) ≡ joined bytes xs ++ joined bytes ys
-joined-append bytes [] ys = refl
-joined-append bytes (x ∷ xs) ys = ap (λ (w : List ℕ). bytes x ++ w) (joined-append bytes xs ys) ∙ sym (append-assoc (bytes x) (joined bytes xs) (joined bytes ys))
 
 -- The numbers of functions.
 number-next : (P : Program) (f : ℕ) → f < length P → number P (suc f) ≡ number P f + targets (functionOf P f)

@@ -1,14 +1,14 @@
 -- The translator's answer and output for every input (document 01, 'What is turned down'): the file's own checks, 15 and 1 to 10; then
 -- 17; then 16.
 use Prim.Native.Nat.{ℕ}
-use mathlib.Core.List.{List, _++_}
+use mathlib.Core.List.{List}
 use lib.Dec.{leb}
-use lib.ListN.{length, drop}
+use lib.ListN.{length}
 use Rattle.semantics.specs.Translation.{translate}
 use Rattle.parsing.specs.Refusals.{noRoom, translationTooLong}
-use Rattle.parsing.specs.Parser.{Verdict, accepted, refused, orElse, refusedUnless}
+use Rattle.parsing.specs.Parser.{Verdict, orElse, refusedUnless}
 use Rattle.target_tags.specs.Tag.{fileLimit}
-use Rattle.runs.specs.Tells.{Tells, refuses, tells, tellsBy}
+use Rattle.runs.specs.Tells.{Tells, refuses, tells, tellsBy, leaves}
 use Rattle.procedure_file.specs.Check.{checkOf, programOf}
 use Rattle.target_file.specs.Writing.{writing}
 use Rattle.translator.specs.declared.Translated.{Translated}
@@ -35,11 +35,6 @@ translateVerdict s room = orElse (checkOf s) (roomVerdict (length (translationOf
 -- The answer for a file and an output of some length.
 unfoldable pub answerOf : List ℕ → ℕ → Tells ℕ
 answerOf s room = tellsBy (translateVerdict s room) (length (translationOf s))
-
--- "output past the translation keeps what it held"; at a refusal "no lent memory changes".
-abbrev pub leaves : Verdict → List ℕ → List ℕ → List ℕ
-leaves accepted w out = w ++ drop (length w) out
-leaves (refused number place) w out = out
 
 -- What the output holds afterwards.
 unfoldable pub outputOf : List ℕ → List ℕ → List ℕ

@@ -14,9 +14,9 @@ use translator_sizes::function_size;
 ghost use mathlib.Core.Path.{_≡_};
 ghost use lib.ListN.{length};
 ghost use Rattle.parsing.specs.Parser.{verdictOf};
-ghost use Rattle.runs.specs.Tells.{tellsBy};
+ghost use Rattle.runs.specs.Tells.{tellsBy, leaves};
 ghost use Rattle.procedure_file.specs.Loaded.{Loaded};
-ghost use Rattle.translator.specs.Translated.{translationOf, toldBy, roomVerdict, leaves, answerOf, outputOf};
+ghost use Rattle.translator.specs.Translated.{translationOf, toldBy, roomVerdict, answerOf, outputOf};
 
 // The translator's answer: the length of the translation, or a refusal.
 pub enum Translated {

@@ -2,7 +2,7 @@
 use Prim.Native.Nat.{ℕ, suc, _+_, _≤_, _<_}
 use native.Mathlib.Omega.{arith}
 use mathlib.Core.Path.{_≡_, refl, sym, ap, _∙_, subst}
-use mathlib.Core.List.{List, [], _∷_, _++_, map}
+use mathlib.Core.List.{List, [], _∷_, _++_, map, append-nil}
 use lib.ListN.{length, getD, drop, set, length-append}
 use lib.Seq.{drop-cons}
 use Rattle.memory.specs.Lay.{lay}
@@ -89,6 +89,10 @@ module _ {o₀ : ℕ} {w₀ d₀ : List ℕ} {o : ℕ} {w d : List ℕ} (K : Res
       let t : o + length w ≡ o₀ + length w₀ = K .total in
       let p : length w ≡ 0 = ap length e in
       record { next = omega arith; laid = sym (lay-nil o d) ∙ (ap (λ (x : List ℕ). lay o x d) (sym e) ∙ K .same) }
+
+-- The rest, written whole.
+pub rest-last : {o₀ : ℕ} {w₀ d₀ : List ℕ} {o : ℕ} {w d : List ℕ} → Rest o₀ w₀ d₀ o w d → {r : ℕ} {d′ : List ℕ} → Wrote o w d r d′ → Wrote o₀ w₀ d₀ r d′
+rest-last {w = w} K W = rest-done (rest-more K w [] (sym (append-nil w)) W) refl
 
 -- Single bytes, as they are stored.
 module _ {o : ℕ} {d : List ℕ} where

@@ -1,7 +1,7 @@
 -- `translator::translate` meets its contract.
 use Rattle.procedure_file.specs.LoadedLaws.{loaded}
-use Rattle.translator.specs.Translated.{translateVerdict, answerOf, outputOf}
-use Rattle.translator.specs.AnswerLaws.{answer-refused, answer-accepted}
+use Rattle.runs.specs.OutputLaws.{answer-refused, answer-accepted}
+use Rattle.translator.specs.Translated.{translationOf, translateVerdict, answerOf, outputOf}
 use borrow.Author.Needs.{needs}
 use Rattle.translator.proofs.translate.Statement.{statement}
 use Rattle.translator.proofs.translate.Tie as tie
@@ -26,7 +26,7 @@ unfolding answerOf outputOf translateVerdict
 returns c =
     let at-load = c .before .before .before in
     let entry = at-load .before .before .before .before in
-    let F = answer-refused (entry .args .file .now) (entry .args .out .now) (at-load .load .ensures .0) _ (c .before .r .given .1) in (F .answer, F .output)
+    let F = answer-refused (translationOf (entry .args .file .now)) (entry .args .out .now) (at-load .load .ensures .0) _ (c .before .r .given .1) in (F .answer, F .output)
 
 same-length : tie.Need-same-length
 same-length c = search needs
@@ -38,7 +38,7 @@ returns-2 c =
     let at-enum-told = at-translate-loaded .before .before .before in
     let at-load = at-enum-told .before .before in
     let entry = at-load .before .before .before .before in
-    let F = answer-accepted (entry .args .file .now) (entry .args .out .now) (at-load .load .ensures .0) _ (at-enum-told .enum-told .given .1)
+    let F = answer-accepted (translationOf (entry .args .file .now)) (entry .args .out .now) (at-load .load .ensures .0) _ (at-enum-told .enum-told .given .1)
     (record { answer = at-translate-loaded .translate-loaded .ensures .0; output = at-translate-loaded .translate-loaded .ensures .1 }) in
     (F .answer, F .output)
 

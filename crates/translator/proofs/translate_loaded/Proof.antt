@@ -1,5 +1,7 @@
 -- `translator::translate_loaded` meets its contract.
-use Rattle.translator.specs.AnswerLaws.{size-refused, answer-room, answer-written}
+use Rattle.runs.specs.OutputLaws.{check-refused, check-written}
+use Rattle.translator.specs.Translated.{translationOf}
+use Rattle.translator.specs.AnswerLaws.{room-judged, answer-room}
 use borrow.Author.Needs.{needs}
 use Rattle.translator.proofs.translate_loaded.Statement.{statement}
 use Rattle.translator.proofs.translate_loaded.Tie as tie
@@ -33,7 +35,8 @@ returns c =
     let at-room-checked = at-r .before .before in
     let at-size = at-room-checked .before in
     let entry = entry-before-size at-size in
-    let A = size-refused (entry .args .file .now) (entry .args .out .now) (at-size .translation-size .ensures) (at-room-checked .room-checked .ensures) (at-r .r .given .1) in
+    let A = check-refused (translationOf (entry .args .file .now)) (entry .args .out .now)
+    (room-judged (entry .args .file .now) (entry .args .out .now) (at-size .translation-size .ensures) (at-room-checked .room-checked .ensures)) (at-r .r .given .1) in
     (A .answer, A .output)
 
 same-length : tie.Need-same-length
@@ -46,8 +49,9 @@ returns-2 c =
     let at-room-checked = at-enum-told .before .before in
     let at-size = at-room-checked .before in
     let entry = entry-before-size at-size in
-    let A = answer-written (entry .args .file .now) (entry .args .out .now) (at-size .translation-size .ensures) (at-room-checked .room-checked .ensures)
-    (at-enum-told .enum-told .given .1) (at-put-file .put-file .ensures) in
+    let A = check-written (translationOf (entry .args .file .now)) (entry .args .out .now)
+    (room-judged (entry .args .file .now) (entry .args .out .now) (at-size .translation-size .ensures) (at-room-checked .room-checked .ensures))
+    (at-enum-told .enum-told .given .1) (at-size .translation-size .ensures) (at-put-file .put-file .ensures .laid) in
     (A .answer, A .output)
 
 pub translate-loaded-spec : {M : Type 1} → statement M
