@@ -20,7 +20,7 @@ use runs::Stopped;
 // Any refusal of a call.
 fn some_refusal() -> Refusal {
     Refusal {
-        number: refusals::MAIN_ARITY,
+        number: refusals::START_ARITY,
         place: 0,
     }
 }

@@ -53,9 +53,9 @@ wrongLength = 12
 abbrev pub wrongSlot : ℕ
 wrongSlot = 13
 
--- "14 argument count unlike function 0's."
-abbrev pub mainArity : ℕ
-mainArity = 14
+-- "14 argument count unlike function 0's"; document 02 (Slip 4): unlike the start function's.
+abbrev pub startArity : ℕ
+startArity = 14
 
 -- "15 file above its limit (32,768; translated 65,535; place: the limit)."
 abbrev pub fileTooLong : ℕ
@@ -84,3 +84,7 @@ notContinuation = 20
 -- "21 when a handler was needed and another kind is bound."
 abbrev pub notHandler : ℕ
 notHandler = 21
+
+-- "22 when the merged file would have over 32 functions or 32,768 bytes, at 0".
+abbrev pub mergedTooLarge : ℕ
+mergedTooLarge = 22

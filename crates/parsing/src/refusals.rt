@@ -26,8 +26,8 @@ pub const UNBOUND_SLOT: u8 = 11;
 pub const WRONG_LENGTH: u8 = 12;
 // "13 slot above 35, or tag 9 with equal slots for both (at the handler slot)."
 pub const WRONG_SLOT: u8 = 13;
-// "14 argument count unlike function 0's."
-pub const MAIN_ARITY: u8 = 14;
+// "14 argument count unlike function 0's"; document 02 (Slip 4): unlike the start function's.
+pub const START_ARITY: u8 = 14;
 // "15 file above its limit (32,768; translated 65,535; place: the limit)."
 pub const FILE_TOO_LONG: u8 = 15;
 // "16 depth above 256, or a lent buffer too short (48 words of 32 bits per frame; the whole translation)."
@@ -42,3 +42,5 @@ pub const NOT_WHOLE: u8 = 19;
 pub const NOT_CONTINUATION: u8 = 20;
 // "21 when a handler was needed and another kind is bound."
 pub const NOT_HANDLER: u8 = 21;
+// "22 when the merged file would have over 32 functions or 32,768 bytes, at 0".
+pub const MERGED_TOO_LARGE: u8 = 22;
