@@ -27,7 +27,7 @@ use Rattle.target_layout.specs.Layout as TargetLayout
 use Rattle.target_file.specs.Writing as Writing
 use Rattle.translator.specs.Translated.{translationOf, roomVerdict}
 use Rattle.memory.specs.Frame.{frameSize}
-use Rattle.memory.specs.Call.{maxDepth, argumentsVerdict, wordsVerdict}
+use Rattle.memory.specs.Call.{maxDepth, startVerdict, argumentsVerdict, wordsVerdict}
 use Rattle.runs.specs.Tells.{tells}
 use Rattle.agreement.specs.Statement.{controllerBudget}
 use Rattle.agreement.specs.Sides.{callVerdict, sidesVerdict, sidesTell}
@@ -128,7 +128,7 @@ table =
     ∷ []
 
 pub cases : All Holds table
-unfolding sidesTell controllerBudget sidesVerdict callVerdict argumentsVerdict wordsVerdict roomVerdict translationOf checkOf
+unfolding sidesTell controllerBudget sidesVerdict callVerdict startVerdict argumentsVerdict wordsVerdict roomVerdict translationOf checkOf
     programOf Layout.program Layout.function Layout.heading Layout.labelled Layout.block Layout.walk Operation.operationAt
     Operation.constantAt Operation.copyAt Operation.differenceAt Operation.callAt Operation.gotoAt Operation.returnAt
     Operation.branchAt Operation.endAt Fields.head Fields.version Fields.count Fields.ended Fields.valueOf Names.namesOf

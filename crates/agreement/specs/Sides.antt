@@ -13,7 +13,7 @@ use Rattle.parsing.specs.declared.Checked.the-variants.{Accepted, Refused}
 use Rattle.parsing.specs.Parser.{Verdict, accepted, orElse, verdictOf}
 use Rattle.parsing.specs.Bytes.{Bytes}
 use Rattle.memory.specs.Frame.{frameSize}
-use Rattle.memory.specs.Call.{maxDepth, argumentsVerdict, wordsVerdict}
+use Rattle.memory.specs.Call.{maxDepth, startVerdict, argumentsVerdict, wordsVerdict}
 use Rattle.target_tags.specs.Tag.{fileLimit}
 use Rattle.runs.specs.Tells.{Tells, tells, tellsBy, toldOf, ChangedBy}
 use Rattle.procedure_file.specs.Check.{checkOf, programOf}
@@ -23,18 +23,19 @@ use Rattle.controller.specs.Published as Controller
 use Rattle.agreement.specs.declared.Sides.{Sides}
 use Rattle.agreement.specs.Statement.{entryOf, translationRun, controllerBudget, Claim}
 
--- ── Refusals, in document 01's order: ".. then 14, 17, 16." ─────────────────────────────────────
+-- ── Refusals: 9 of the start function (document 02, Slip 4), ".. then 14, 17, 16." (document 01) ─
 
--- Of a call on an accepted file: arguments given and wanted, the bytes of the translation and the room lent for them, the depth, the
--- words lent for frames and for records.
-unfoldable pub callVerdict : (given wanted bytes room depth frames records : ℕ) → Verdict
-callVerdict given wanted bytes room depth frames records =
-    orElse (argumentsVerdict given wanted) (orElse (roomVerdict bytes room) (orElse (wordsVerdict depth frames) (wordsVerdict depth records)))
+-- Of a call on an accepted file: the start function, of so many functions; arguments given and wanted, the bytes of the translation and
+-- the room lent for them, the depth, the words lent for frames and for records.
+unfoldable pub callVerdict : (start functions given wanted bytes room depth frames records : ℕ) → Verdict
+callVerdict start functions given wanted bytes room depth frames records =
+    orElse (startVerdict start functions)
+    (orElse (argumentsVerdict given wanted) (orElse (roomVerdict bytes room) (orElse (wordsVerdict depth frames) (wordsVerdict depth records))))
 
 -- The file's own checks, then those of the call.
 unfoldable pub sidesVerdict : List ℕ → FunctionNumber → (given depth frames room records : ℕ) → Verdict
 sidesVerdict s f given depth frames room records =
-    orElse (checkOf s) (callVerdict given (functionOf (programOf s) f .params) (length (translationOf s)) room depth frames records)
+    orElse (checkOf s) (callVerdict f (length (programOf s)) given (functionOf (programOf s) f .params) (length (translationOf s)) room depth frames records)
 
 -- ── What is told ────────────────────────────────────────────────────────────────────────────────
 

@@ -1,7 +1,7 @@
 -- The side-by-side call, as the code has it.
 use Prim.Native.Nat.{ℕ, _+_, _*_, _≤_, _<_}
 use native.Mathlib.Omega.{arith}
-use mathlib.Core.Path.{_≡_, refl, sym, ap, _∙_, subst}
+use mathlib.Core.Path.{_≡_, refl, sym, ap, ap₂, _∙_, subst}
 use mathlib.Core.List.{List, _++_}
 use lib.IntN.{ℤ}
 use lib.ListN.{length, take, drop, length-append}
@@ -14,8 +14,8 @@ use Rattle.parsing.specs.declared.Checked.the-variants.{Accepted, Refused}
 use Rattle.parsing.specs.Parser.{Verdict, accepted, refused, verdictOf, orElse}
 use Rattle.parsing.specs.Bytes.{Bytes}
 use Rattle.parsing.specs.VerdictLaws.{or-accepted}
-use Rattle.memory.specs.Call.{argumentsVerdict, wordsVerdict}
-use Rattle.memory.specs.CallLaws.{fitting-arguments, fitting-words}
+use Rattle.memory.specs.Call.{startVerdict, argumentsVerdict, wordsVerdict}
+use Rattle.memory.specs.CallLaws.{fitting-start, fitting-arguments, fitting-words}
 use Rattle.runs.specs.Stopped.{stoppedAs}
 use Rattle.runs.specs.Tells.{tells, tellsBy, toldOf, ChangedBy}
 use Rattle.runs.specs.TellsLaws.{answered}
@@ -89,7 +89,7 @@ module _ {s : List ℕ} {f : FunctionNumber} {args : List ℤ} {depth : ℕ} {fr
 
         together-told : toldOf (controllerRun s f args depth budget) ≡ record { stop = Bench.saidBy a .result .stop; steps = a .steps + a .extras }
         together-told =
-            ran-alike s f args depth (R .isAccepted) (R .arguments) (claim .isAccepted) (claim .entry) (claim .arguments) (claim .benchMoves) (claim .controllerMoves) (claim .agree) budget
+            ran-alike s f args depth (R .isAccepted) (R .function) (R .arguments) (claim .isAccepted) (claim .entry) (claim .arguments) (claim .benchMoves) (claim .controllerMoves) (claim .agree) budget
             ∙ ap (λ (t : Bench.Told). record { stop = t .result .stop; steps = t .result .steps + t .extras }) (sym (bench-said .1))
 
         pub machines-ran : MachinesRan s f args depth budget (record { verdict = Accepted; target = length target; bench = a; controller = c }) frames frames′ records records′
@@ -100,7 +100,7 @@ module _ {s : List ℕ} {f : FunctionNumber} {args : List ℤ} {depth : ℕ} {fr
                   record {
                     frameWords = B .held;
                     recordWords = controller-answered .held;
-                    stops = stops-match s f args depth (R .isAccepted) (R .arguments) (claim .isAccepted) (claim .entry) (claim .arguments) (claim .benchMoves) (claim .controllerMoves) (claim .agree) budget;
+                    stops = stops-match s f args depth (R .isAccepted) (R .function) (R .arguments) (claim .isAccepted) (claim .entry) (claim .arguments) (claim .benchMoves) (claim .controllerMoves) (claim .agree) budget;
                     counted = ap (λ (r : Result (Unit {0})). r .steps) (controller-said .1 ∙ together-told);
                     neitherRefused = (bench-said .0, controller-said .0);
                     claim = claim;
@@ -131,7 +131,8 @@ module _ (s : List ℕ) (f : FunctionNumber) (args : List ℤ) (depth budget : �
   file-refused a e q k = refused-so a k (rw (sym e ∙ ap verdictOf q))
 
 -- What an accepted call fits.
-record FittingCall (given wanted size room depth frames records : ℕ) : Type 0 where
+record FittingCall (start functions given wanted size room depth frames records : ℕ) : Type 0 where
+  function : start < functions
   arguments : given ≡ wanted
   sizeBound : size ≤ 65535
   roomFits : size ≤ room
@@ -139,15 +140,18 @@ record FittingCall (given wanted size room depth frames records : ℕ) : Type 0 
   framesFit : 48 * depth ≤ frames
   recordsFit : 48 * depth ≤ records
 
-fitting-call : (given wanted size room depth frames records : ℕ) → callVerdict given wanted size room depth frames records ≡ accepted → FittingCall given wanted size room depth frames records
+fitting-call : (start functions given wanted size room depth frames records : ℕ) → callVerdict start functions given wanted size room depth frames records ≡ accepted
+    → FittingCall start functions given wanted size room depth frames records
 unfolding callVerdict
-fitting-call given wanted size room depth frames records e =
-    let a = or-accepted (argumentsVerdict given wanted) (orElse (roomVerdict size room) (orElse (wordsVerdict depth frames) (wordsVerdict depth records))) e in
+fitting-call start functions given wanted size room depth frames records e =
+    let s = or-accepted (startVerdict start functions) (orElse (argumentsVerdict given wanted) (orElse (roomVerdict size room) (orElse (wordsVerdict depth frames) (wordsVerdict depth records)))) e in
+    let a = or-accepted (argumentsVerdict given wanted) (orElse (roomVerdict size room) (orElse (wordsVerdict depth frames) (wordsVerdict depth records))) (s .1) in
     let b = or-accepted (roomVerdict size room) (orElse (wordsVerdict depth frames) (wordsVerdict depth records)) (a .1) in
     let c = or-accepted (wordsVerdict depth frames) (wordsVerdict depth records) (b .1) in
     let r = fitting-room size room (b .0) in
     let x = fitting-words depth frames (c .0) in
     record {
+      function = fitting-start start functions (s .0);
       arguments = fitting-arguments given wanted (a .0);
       sizeBound = r .0;
       roomFits = r .1;
@@ -156,25 +160,23 @@ fitting-call given wanted size room depth frames records e =
       recordsFit = fitting-words depth records (c .1) .1;
     }
 
--- A call on a loaded file from a function that it has, judged.
+-- A call on a loaded file, judged.
 pub record JudgedAs (s : List ℕ) (f : FunctionNumber) (args : List ℤ) (depth : ℕ) (m : Memory) (v : Checked) : Type 0 where
   pub bytes : Bytes s
   pub isAccepted : checkOf s ≡ accepted
-  pub function : f < length (programOf s)
-  pub verdict : verdictOf v ≡ callVerdict (length args) (functionOf (programOf s) f .params) (length (translationOf s)) (length (m .room)) depth (length (m .frames)) (length (m .records))
+  pub verdict : verdictOf v ≡ callVerdict f (length (programOf s)) (length args) (functionOf (programOf s) f .params) (length (translationOf s)) (length (m .room)) depth (length (m .frames)) (length (m .records))
 
-pub judged-as : {s starts : List ℕ} {f : FunctionNumber} {depth : ℕ} (args : List ℤ) (m : Memory) (v : Checked) {wanted size : ℕ} → Loaded s starts → f < length (programOf s)
+pub judged-as : {s starts : List ℕ} {f : FunctionNumber} {depth : ℕ} (args : List ℤ) (m : Memory) (v : Checked) {functions wanted size : ℕ} → Loaded s starts → functions ≡ length (programOf s)
     → wanted ≡ functionOf (programOf s) f .params → size ≡ length (translationOf s)
-    → verdictOf v ≡ callVerdict (length args) wanted size (length (m .room)) depth (length (m .frames)) (length (m .records)) → JudgedAs s f args depth m v
-judged-as {s} {f = f} {depth = depth} args m v {wanted} {size} L below ew es e =
+    → verdictOf v ≡ callVerdict f functions (length args) wanted size (length (m .room)) depth (length (m .frames)) (length (m .records)) → JudgedAs s f args depth m v
+judged-as {s} {f = f} {depth = depth} args m v {functions} {wanted} {size} L en ew es e =
     record {
       bytes = L .tabled .laid .bytes;
       isAccepted = L .isAccepted;
-      function = below;
       verdict =
           e
-          ∙ (ap (λ (k : ℕ). callVerdict (length args) k size (length (m .room)) depth (length (m .frames)) (length (m .records))) ew
-          ∙ ap (λ (k : ℕ). callVerdict (length args) (functionOf (programOf s) f .params) k (length (m .room)) depth (length (m .frames)) (length (m .records))) es);
+          ∙ (ap₂ (λ (n k : ℕ). callVerdict f n (length args) k size (length (m .room)) depth (length (m .frames)) (length (m .records))) en ew
+          ∙ ap (λ (k : ℕ). callVerdict f (length (programOf s)) (length args) (functionOf (programOf s) f .params) k (length (m .room)) depth (length (m .frames)) (length (m .records))) es);
     }
 
 module _ (s : List ℕ) (f : FunctionNumber) (args : List ℤ) (depth budget : ℕ) (m : Memory) (v : Checked) (J : JudgedAs s f args depth m v) where
@@ -186,8 +188,8 @@ module _ (s : List ℕ) (f : FunctionNumber) (args : List ℤ) (depth budget : �
   call-refused a q k = refused-so s f args depth budget m a k (sym judged ∙ ap verdictOf q)
 
   module _ (q : v ≡ Accepted) where
-    fitting : FittingCall (length args) (functionOf (programOf s) f .params) (length (translationOf s)) (length (m .room)) depth (length (m .frames)) (length (m .records))
-    fitting = fitting-call _ _ _ _ _ _ _ (sym (J .verdict) ∙ ap verdictOf q)
+    fitting : FittingCall f (length (programOf s)) (length args) (functionOf (programOf s) f .params) (length (translationOf s)) (length (m .room)) depth (length (m .frames)) (length (m .records))
+    fitting = fitting-call _ _ _ _ _ _ _ _ _ (sym (J .verdict) ∙ ap verdictOf q)
 
     pub translation-room : Room 0 (translationOf s) (m .room)
     translation-room = let r = fitting in record { fits = omega (arith, r .roomFits); small = omega (arith, r .sizeBound) }
@@ -198,7 +200,7 @@ module _ (s : List ℕ) (f : FunctionNumber) (args : List ℤ) (depth budget : �
         record {
           bytes = J .bytes;
           isAccepted = J .isAccepted;
-          function = J .function;
+          function = r .function;
           arguments = r .arguments;
           fits = r .sizeBound;
           depthBound = r .depthBound;

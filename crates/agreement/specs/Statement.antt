@@ -2,7 +2,8 @@
 -- accepted procedure file whose translation fits, the translation is an accepted translated file, the run of the code that this file is
 -- agrees with the bench's run of the program that the procedure file is, and so do the answers of the two machines and what they are
 -- charged. Whoever doubts the price list reads this file and `Agree` in the Statement of crate `semantics`; Theorem.antt proves it.
--- f is the start function, 0 for main; on the controller it is that entry's number.
+-- f is the start function, 0 for main; on the controller it is that entry's number (document 02, Slip 4: "Started alike now includes the
+-- start function").
 use Prim.Native.Nat.{ℕ, _+_, _*_, _≤_, _<_}
 use mathlib.Core.Path.{_≡_}
 use mathlib.Core.Logic.{_↔_}

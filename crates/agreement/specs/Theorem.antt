@@ -36,7 +36,6 @@ use Rattle.translator.specs.Translated.{translationOf}
 use Rattle.bench.specs.Published.{benchVerdict, benchTells}
 use Rattle.bench.specs.Published as Bench
 use Rattle.controller.specs.Published.{controllerVerdict, controllerTells}
-use Rattle.controller.specs.Published as Controller
 use Rattle.charge.specs.Charge.{charge, withExtras}
 use Rattle.charge.specs.ChargeLaws.{ended-charged}
 use Rattle.agreement.specs.Statement.{NeverBroken, FilesMove, entryOf, translationRun, controllerBudget, AnswersAgree, Claim, FilesAgree}
@@ -75,17 +74,17 @@ source P h =
 
 -- ── What each machine tells where it does not refuse ────────────────────────────────────────────
 
-module _ (s : List ℕ) (f : FunctionNumber) (args : List ℤ) (depth frames : ℕ) (ok : Procedure.checkOf s ≡ accepted)
+module _ (s : List ℕ) (f : FunctionNumber) (args : List ℤ) (depth frames : ℕ) (ok : Procedure.checkOf s ≡ accepted) (below : f < length (Procedure.programOf s))
     (la : length args ≡ functionOf (Procedure.programOf s) f .params) (depthBound : depth ≤ 256) (room : 48 * depth ≤ frames) where
   pub bench-tells : (budget : ℕ) → benchTells s f args depth budget frames ≡ tells (Bench.runTells s f args depth budget)
   unfolding benchTells benchVerdict
-  bench-tells budget = rw (ok, call-fits (length args) (functionOf (Procedure.programOf s) f .params) depth frames la depthBound room)
+  bench-tells budget = rw (ok, call-fits f (length (Procedure.programOf s)) (length args) (functionOf (Procedure.programOf s) f .params) depth frames below la depthBound room)
 
-module _ (t : List ℕ) (g : ℕ) (args : List ℤ) (depth records : ℕ) (ok : Target.checkOf t ≡ accepted) (la : length args ≡ targetOf (Target.codeOf t) g .params)
-    (depthBound : depth ≤ 256) (room : 48 * depth ≤ records) where
+module _ (t : List ℕ) (g : ℕ) (args : List ℤ) (depth records : ℕ) (ok : Target.checkOf t ≡ accepted) (below : g < length (Target.codeOf t))
+    (la : length args ≡ targetOf (Target.codeOf t) g .params) (depthBound : depth ≤ 256) (room : 48 * depth ≤ records) where
   pub controller-tells : (budget : ℕ) → controllerTells t g args depth budget records ≡ tells (toldOf (controller (Target.codeOf t) g args depth budget))
   unfolding controllerTells controllerVerdict
-  controller-tells budget = rw (ok, call-fits (length args) (targetOf (Target.codeOf t) g .params) depth records la depthBound room)
+  controller-tells budget = rw (ok, call-fits g (length (Target.codeOf t)) (length args) (targetOf (Target.codeOf t) g .params) depth records below la depthBound room)
 
 pub told-more : {S : Type 0} (x : Stop S) → oneMoreIfDeep (told x) ≡ oneMoreIfDeep x
 told-more (ended e) = refl
@@ -108,8 +107,8 @@ few-steps s bytes ok f args depth budget h =
 
 -- ── From the rules to the answers ───────────────────────────────────────────────────────────────
 
-module _ (s : List ℕ) (f : FunctionNumber) (args : List ℤ) (depth : ℕ) (ok : Procedure.checkOf s ≡ accepted) (la : length args ≡ functionOf (Procedure.programOf s) f .params)
-    (accepts : Target.checkOf (translationOf s) ≡ accepted) (there : entryOf s f < length (Target.codeOf (translationOf s)))
+module _ (s : List ℕ) (f : FunctionNumber) (args : List ℤ) (depth : ℕ) (ok : Procedure.checkOf s ≡ accepted) (below : f < length (Procedure.programOf s))
+    (la : length args ≡ functionOf (Procedure.programOf s) f .params) (accepts : Target.checkOf (translationOf s) ≡ accepted) (there : entryOf s f < length (Target.codeOf (translationOf s)))
     (lt : length args ≡ targetOf (Target.codeOf (translationOf s)) (entryOf s f) .params)
     (benchMoves : Sound (WellFormedState (Procedure.programOf s)) waiting depth (bench (Procedure.programOf s) f args depth))
     (controllerMoves : Sound (StateKeeps (Target.codeOf (translationOf s)) 36) inUse depth (translationRun s f args depth))
@@ -147,16 +146,16 @@ module _ (s : List ℕ) (f : FunctionNumber) (args : List ℤ) (depth : ℕ) (ok
           benchTold = bench-told;
           controllerTold = controller-told;
           exactly = answers (b .steps + x) ∙ rw (runs-exactly budget .stop, runs-exactly budget .steps) refl;
-          sameDeep = rw (bench-tells s f args depth frames ok la depthBound lf (b .steps + 1), answers (b .steps + x + 1)) (runs-exactly budget .sameDeep);
+          sameDeep = rw (bench-tells s f args depth frames ok below la depthBound lf (b .steps + 1), answers (b .steps + x + 1)) (runs-exactly budget .sameDeep);
           sameCharge = ap charge (controller-told ∙ sym (ap withExtras bench-told));
           inCents = λ small e q. ap (λ (t : Tells Bench.Told). charge (withExtras t)) bench-told ∙ ended-charged (told (b .stop)) (b .steps + x) e q (few small);
         }
       where
         answers : (n : ℕ) → controllerTells (translationOf s) (entryOf s f) args depth n records ≡ tells (toldOf (translationRun s f args depth n))
-        answers = controller-tells (translationOf s) (entryOf s f) args depth records accepts lt depthBound lr
+        answers = controller-tells (translationOf s) (entryOf s f) args depth records accepts there lt depthBound lr
 
         bench-told : benchTells s f args depth budget frames ≡ tells (Bench.runTells s f args depth budget)
-        bench-told = bench-tells s f args depth frames ok la depthBound lf budget
+        bench-told = bench-tells s f args depth frames ok below la depthBound lf budget
 
         controller-told : controllerTells (translationOf s) (entryOf s f) args depth (controllerBudget (Bench.runTells s f args depth budget)) records
             ≡ tells (record { stop = told (b .stop); steps = b .steps + x })
@@ -180,7 +179,7 @@ module _ (s : List ℕ) (f : FunctionNumber) (args : List ℤ) (depth : ℕ) (ok
 pub files-agree : FilesAgree
 unfolding translationOf
 files-agree s bytes ok fits f below args la depth =
-    claimed s f args depth ok la (translation-accepted .fits P S .1 fits) (subst (λ (Q : Code). g < length Q) (sym back) there)
+    claimed s f args depth ok below la (translation-accepted .fits P S .1 fits) (subst (λ (Q : Code). g < length Q) (sym back) there)
     (la ∙ sym (ap (λ (D : Target). D .params) (ap (λ (Q : Code). targetOf Q g) back ∙ entry-is)))
     (bench-is-sound P (h .wellFormed) f below args la depth)
     (subst (λ (Q : Code). Sound (StateKeeps Q 36) inUse depth (controller Q g args depth)) (sym back) (controller-is-sound 36 (translate P) (translation-rules P S) g there args (la ∙ sym (ap (λ (D : Target). D .params) entry-is)) depth))

@@ -1,22 +1,22 @@
 // The side-by-side call: a procedure is translated, and run on both machines.
-use casts::byte_number;
 use memory::arguments_checked;
+use memory::start_checked;
 use memory::words_checked;
 use parsing::Checked;
 use parsing::Refusal;
 use parsing::or_else;
 use procedure_file::check::load;
-use procedure_file::table::params_of;
+use procedure_file::table::functions_of;
+use procedure_file::table::wanted_of;
 use runs::one_more_if_deep;
 use target_file::table::table_of;
+use translator::parts::entry_number;
 use translator::parts::put_file;
 use translator::room_checked;
 use translator::translation_size;
 ghost use mathlib.Core.Path.{_≡_};
-ghost use Prim.Native.Nat.{_<_};
 ghost use lib.ListN.{length};
 ghost use Rattle.parsing.specs.Parser.{verdictOf};
-ghost use Rattle.procedure_file.specs.Check.{programOf};
 ghost use Rattle.procedure_file.specs.Loaded.{Loaded};
 ghost use Rattle.translator.specs.Translated.{translationOf};
 ghost use Rattle.agreement.specs.Statement.{entryOf};
@@ -30,8 +30,10 @@ pub struct Sides {
     pub controller: controller::machine::Answer,
 }
 
-// What a call on an accepted file is refused for: 14, 17, then 16.
+// What a call on an accepted file is refused for: 9 of the start function, 14, 17, then 16.
 fn call_judged(
+    start: usize,
+    functions: usize,
     given: usize,
     wanted: usize,
     size: usize,
@@ -40,11 +42,12 @@ fn call_judged(
     frames: usize,
     records: usize,
 ) -> Checked
-    ensures { λ r. ⌜ verdictOf r ≡ callVerdict given wanted size room depth frames records ⌝ }
+    ensures { λ r. ⌜ verdictOf r ≡ callVerdict start functions given wanted size room depth frames records ⌝ }
 {
     let words = or_else(words_checked(depth, frames), words_checked(depth, records));
     let memory = or_else(room_checked(size, room), words);
-    or_else(arguments_checked(given, wanted), memory)
+    let rest = or_else(arguments_checked(given, wanted), memory);
+    or_else(start_checked(start, functions), rest)
 }
 
 // Both runs from function f, the translation made, in which f's entry has number g: the controller gets bench steps plus extras, one more
@@ -94,12 +97,11 @@ fn refused(r: Refusal) -> Sides
     }
 }
 
-// The call on a loaded file, from its function f, whose entry in the translation has number g.
+// The call on a loaded file, from function f.
 pub fn sides_loaded(
     file: &[u8],
     starts: &[u16; 2048],
     f: usize,
-    g: usize,
     arguments: &[i32],
     depth: usize,
     budget: u32,
@@ -108,13 +110,15 @@ pub fn sides_loaded(
     records: &mut [i32],
 ) -> Sides
     requires { ⌜ Loaded (now file) (now starts) ⌝ }
-    requires { ⌜ (f < length (programOf (now file))) × (g ≡ entryOf (now file) f) ⌝ }
     ensures tells { λ a. ⌜ sidesTold a ≡ sidesTell (now (file .entry)) f (now (arguments .entry)) depth budget (length (now (frames .entry))) (length (now (room .entry))) (length (now (records .entry))) ⌝ }
     ensures memory { λ a. ⌜ SidesMemory (now (file .entry)) f (now (arguments .entry)) depth budget a (record { frames = now (frames .entry); room = now (room .entry); records = now (records .entry) }) (record { frames = now (frames .exit); room = now (room .exit); records = now (records .exit) }) ⌝ }
 {
-    let wanted = byte_number(params_of(file, starts, f));
+    let functions = functions_of(file);
+    let wanted = wanted_of(file, starts, f);
     let size = translation_size(file, starts);
     match call_judged(
+        f,
+        functions,
         arguments.len(),
         wanted,
         size,
@@ -128,6 +132,7 @@ pub fn sides_loaded(
         }
         Checked::Accepted => {}
     }
+    let g = entry_number(file, starts, f);
     put_file(file, starts, room);
     run_both(
         file,
@@ -143,10 +148,12 @@ pub fn sides_loaded(
     )
 }
 
-// Translates a procedure file into the room lent, runs it on the bench, and runs the translation on the controller with bench steps plus
-// extras, one more where the bench stopped deep. Each machine is lent 48 words for each frame of the depth limit.
+// Translates a procedure file into the room lent, runs it on the bench from function f, and runs the translation on the controller from
+// f's entry with bench steps plus extras, one more where the bench stopped deep. Each machine is lent 48 words for each frame of the
+// depth limit.
 pub fn side_by_side(
     file: &[u8],
+    f: usize,
     arguments: &[i32],
     depth: usize,
     budget: u32,
@@ -154,8 +161,8 @@ pub fn side_by_side(
     room: &mut [u8],
     records: &mut [i32],
 ) -> Sides
-    ensures tells { λ a. ⌜ sidesTold a ≡ sidesTell (now (file .entry)) 0 (now (arguments .entry)) depth budget (length (now (frames .entry))) (length (now (room .entry))) (length (now (records .entry))) ⌝ }
-    ensures memory { λ a. ⌜ SidesMemory (now (file .entry)) 0 (now (arguments .entry)) depth budget a (record { frames = now (frames .entry); room = now (room .entry); records = now (records .entry) }) (record { frames = now (frames .exit); room = now (room .exit); records = now (records .exit) }) ⌝ }
+    ensures tells { λ a. ⌜ sidesTold a ≡ sidesTell (now (file .entry)) f (now (arguments .entry)) depth budget (length (now (frames .entry))) (length (now (room .entry))) (length (now (records .entry))) ⌝ }
+    ensures memory { λ a. ⌜ SidesMemory (now (file .entry)) f (now (arguments .entry)) depth budget a (record { frames = now (frames .entry); room = now (room .entry); records = now (records .entry) }) (record { frames = now (frames .exit); room = now (room .exit); records = now (records .exit) }) ⌝ }
 {
     let mut starts = [0u16; 2048];
     match load(file, &mut starts) {
@@ -163,8 +170,7 @@ pub fn side_by_side(
         Checked::Accepted => sides_loaded(
             file,
             &starts,
-            0,
-            0,
+            f,
             arguments,
             depth,
             budget,

@@ -1,6 +1,6 @@
 -- The call: refusals in their order, and the run from function f.
 use Prim.Native.Nat.{ℕ, _*_, _≤_, _<_}
-use mathlib.Core.Path.{_≡_, refl, sym, ap, _∙_, subst}
+use mathlib.Core.Path.{_≡_, refl, sym, ap, ap₂, _∙_, subst}
 use mathlib.Core.List.{List}
 use lib.IntN.{ℤ}
 use lib.ListN.{length}
@@ -32,28 +32,29 @@ module _ (s : List ℕ) (f : FunctionNumber) (args : List ℤ) (depth budget : �
     (subst (λ (v : Verdict). ChangedBy v (RunWords s f args depth budget a words words) words words) (sym e) refl, subst (λ (v : Verdict). RefusedBy refusedAnswer v a) (sym e) q),
   )
 
-  by-check : {v : Verdict} → checkOf s ≡ v → benchVerdict s f (length args) depth (length words) ≡ orElse v (callVerdict (length args) (functionOf (programOf s) f .params) depth (length words))
+  by-check : {v : Verdict} → checkOf s ≡ v → benchVerdict s f (length args) depth (length words) ≡ orElse v (callVerdict f (length (programOf s)) (length args) (functionOf (programOf s) f .params) depth (length words))
   unfolding benchVerdict
-  by-check e = ap (λ (v : Verdict). orElse v (callVerdict (length args) (functionOf (programOf s) f .params) depth (length words))) e
+  by-check e = ap (λ (v : Verdict). orElse v (callVerdict f (length (programOf s)) (length args) (functionOf (programOf s) f .params) depth (length words))) e
 
   -- The file's own checks.
   pub file-refused : {a : Answer} {u : Checked} {r : Refusal} → verdictOf u ≡ checkOf s → u ≡ Refused r → a ≡ refusedAnswer r → Answered a words
   file-refused e q k = refused-so (by-check (sym e ∙ ap verdictOf q)) k
 
-  -- A loaded file: what the call itself is refused for, by the count of parameters that is wanted.
-  module _ {starts : List ℕ} (L : Loaded s starts) {wanted : ℕ} (ew : wanted ≡ functionOf (programOf s) f .params) {u : Checked} (eu : verdictOf u ≡ callVerdict (length args) wanted depth (length words)) where
+  -- A loaded file: what the call itself is refused for, by the number of functions and that of the arguments that are wanted.
+  module _ {starts : List ℕ} (L : Loaded s starts) {functions wanted : ℕ} (en : functions ≡ length (programOf s)) (ew : wanted ≡ functionOf (programOf s) f .params)
+      {u : Checked} (eu : verdictOf u ≡ callVerdict f functions (length args) wanted depth (length words)) where
     verdict-is : {c : Checked} → u ≡ c → benchVerdict s f (length args) depth (length words) ≡ verdictOf c
     verdict-is q =
         by-check (L .isAccepted)
-        ∙ (ap (λ (k : ℕ). callVerdict (length args) k depth (length words)) (sym ew) ∙ (sym eu ∙ ap verdictOf q))
+        ∙ (ap₂ (λ (n k : ℕ). callVerdict f n (length args) k depth (length words)) (sym en) (sym ew) ∙ (sym eu ∙ ap verdictOf q))
 
     pub call-refused : {a : Answer} {r : Refusal} → u ≡ Refused r → a ≡ refusedAnswer r → Answered a words
     call-refused q k = refused-so (verdict-is q) k
 
-    pub call-fits : f < length (programOf s) → u ≡ Accepted → CallFits s f args depth words
-    call-fits h q =
-        let k : (length args ≡ wanted) × (depth ≤ 256) × (48 * depth ≤ length words) = fitting-call (length args) wanted depth (length words) (sym eu ∙ ap verdictOf q) in
-        record { exists = h; arguments = k .0 ∙ ew; depthBound = k .1; room = k .2 }
+    pub call-fits : u ≡ Accepted → CallFits s f args depth words
+    call-fits q =
+        let k : (f < functions) × (length args ≡ wanted) × (depth ≤ 256) × (48 * depth ≤ length words) = fitting-call f functions (length args) wanted depth (length words) (sym eu ∙ ap verdictOf q) in
+        record { exists = subst (λ (n : ℕ). f < n) en (k .0); arguments = k .1 ∙ ew; depthBound = k .2; room = k .3 }
 
     pub call-answered : {a : Answer} {words′ : List ℤ} → u ≡ Accepted → RunAnswered s f args depth budget a words words′ → Answered a words′
     unfolding benchTells

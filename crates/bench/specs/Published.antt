@@ -43,9 +43,9 @@ runOf s f args depth budget = bench (programOf s) f args depth budget
 abbrev pub runTells : List ℕ → FunctionNumber → List ℤ → ℕ → ℕ → Told
 runTells s f args depth budget = record { result = toldOf (runOf s f args depth budget); extras = extras (programOf s) f args depth budget }
 
--- The file's own checks, then 14, then 16, where the run is to start at function f.
+-- The file's own checks; then 9, where there is no function f to start at; then 14 by its parameters; then 16.
 unfoldable pub benchVerdict : List ℕ → FunctionNumber → ℕ → ℕ → ℕ → Verdict
-benchVerdict s f given depth words = orElse (checkOf s) (callVerdict given (functionOf (programOf s) f .params) depth words)
+benchVerdict s f given depth words = orElse (checkOf s) (callVerdict f (length (programOf s)) given (functionOf (programOf s) f .params) depth words)
 
 -- What the bench tells of a file, the function that it starts at, its arguments, a depth limit, a budget and so many lent words.
 unfoldable pub benchTells : List ℕ → FunctionNumber → List ℤ → ℕ → ℕ → ℕ → Tells Told

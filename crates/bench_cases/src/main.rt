@@ -48,7 +48,7 @@ fn run_on(given: &[u8], file: &[u8], depth: usize, budget: u32, delta: u8) {
     let mut space = [UNTOUCHED; 13000];
     let words: &mut [i32] = &mut space;
     let many = lent(words, depth, delta);
-    let a = run(file, &args[..n], depth, budget, &mut words[..many]);
+    let a = run(file, 0, &args[..n], depth, budget, &mut words[..many]);
     print_answer(a, words, depth);
 }
 

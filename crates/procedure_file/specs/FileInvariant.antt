@@ -38,7 +38,6 @@ pub record FileInvariant (s : List ℕ) : Type 0 where
   -- The program of the file.
   pub written : s ≡ writing (programOf s)
   pub wellFormed : WellFormed (programOf s)
-  pub least : 1 ≤ length (programOf s)
   pub most : length (programOf s) ≤ maxFunctions
   pub counts : (f : ℕ) → f < length (programOf s) → Counts (functionOf (programOf s) f)
   pub fileBound : length s ≤ fileLimit

@@ -126,7 +126,6 @@ invariant s bytes e =
     record {
       written = t .1;
       wellFormed = t .0 .wellFormed;
-      least = laid-reads L .least;
       most = laid-reads L .most;
       counts = λ f h. record { params = params-bound s L f h; locals = locals-bound s L f h; blocks = blocks-bound s L f h };
       fileBound = L .fileBound;

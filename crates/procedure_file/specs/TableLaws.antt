@@ -4,8 +4,8 @@ use mathlib.Core.Path.{_≡_, sym, ap, _∙_}
 use mathlib.Core.List.{List, [], _∷_}
 use native.Mathlib.Omega.{arith}
 use borrow.Author.Tests.{le-leb, lt-leb, lt-ltb, le-ltb}
-use lib.ListN.{length, getD, drop, length-append}
-use Rattle.semantics.specs.Program.{Function, Program, functionOf}
+use lib.ListN.{length, getD, drop, length-append, List·getD-eq-default}
+use Rattle.semantics.specs.Program.{Function, Program, noFunction, functionOf}
 use Rattle.procedure_layout.specs.Layout.{block}
 use Rattle.procedure_layout.specs.After.{endOf}
 use Rattle.procedure_file.specs.Check.{programOf}
@@ -29,6 +29,10 @@ module _ (P : Program) (f l : ℕ) where
   pub entry-no-function : length P ≤ f → entryOf P f l ≡ 0
   unfolding entryOf
   entry-no-function h = rw (le-ltb f (length P) h)
+
+-- Where there is no function f, it takes 0 arguments.
+pub no-params : (P : Program) (f : ℕ) → length P ≤ f → 0 ≡ functionOf P f .params
+no-params P f h = sym (ap (λ (F : Function). F .params) (List·getD-eq-default P noFunction h))
 
 -- The function count stands behind mark and version.
 pub count-byte : (s : List ℕ) (L : Laid s) → getD s 5 0 ≡ length (programOf s)

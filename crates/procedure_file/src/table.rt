@@ -69,6 +69,18 @@ pub fn functions_of(file: &[u8]) -> usize
     byte_number(file[5])
 }
 
+// The number of arguments that function f takes, 0 where there is no function f.
+pub fn wanted_of(file: &[u8], starts: &[u16; 2048], f: usize) -> usize
+    requires { ⌜ Tabled (now file) (now starts) ⌝ }
+    ensures { λ r. ⌜ r ≡ functionOf (programOf (now (file .entry))) f .params ⌝ }
+{
+    if f < functions_of(file) {
+        byte_number(params_of(file, starts, f))
+    } else {
+        0
+    }
+}
+
 // The offset past the block at an offset.
 pub fn block_past(file: &[u8], at: usize) -> usize
     ensures { λ r. ⌜ r ≡ endOf (block (now (file .entry)) at) ⌝ }

@@ -78,7 +78,7 @@ fn write_sides(out: &mut [u8], a: Sides) -> usize
     }
 }
 
-// A loaded file: translated into 8,192 bytes, and run with 48 words lent for each of 256 frames.
+// A loaded file: translated into 8,192 bytes, and run from main with 48 words lent for each of 256 frames.
 fn write_loaded(
     out: &mut [u8],
     file: &[u8],
@@ -103,7 +103,6 @@ fn write_loaded(
     let a = sides_loaded(
         file,
         starts,
-        0,
         0,
         arguments,
         depth,

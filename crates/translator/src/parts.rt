@@ -13,7 +13,7 @@ ghost use Rattle.procedure_layout.specs.Layout.{maxFunctions, maxVariables};
 ghost use Rattle.procedure_file.specs.Loaded.{Tabled, Loaded};
 ghost use Rattle.procedure_file.specs.Check.{programOf};
 ghost use Rattle.semantics.specs.Program.{functionOf};
-ghost use Rattle.semantics.specs.Translation.{translate};
+ghost use Rattle.semantics.specs.Translation.{number, translate};
 ghost use Rattle.translator_bytes.specs.Writes.{Room, Wrote};
 ghost use Rattle.translator_sizes.specs.Parts.{partBytes, labelBytes, functionBytes, functionsBytes};
 ghost use Rattle.translator.specs.Standing.{Placed, Numbered};
@@ -137,6 +137,17 @@ fn fill_numbers(file: &[u8], starts: &[u16; 2048], numbers: &mut [u16]) -> usize
         f += 1;
     }
     n
+}
+
+// The number of function f's entry in the translation.
+pub fn entry_number(file: &[u8], starts: &[u16; 2048], f: usize) -> usize
+    requires { ⌜ Tabled (now file) (now starts) ⌝ }
+    requires { ⌜ f < length (programOf (now file)) ⌝ }
+    ensures { λ r. ⌜ r ≡ number (programOf (now (file .entry))) f ⌝ }
+{
+    let mut numbers = [0u16; 32];
+    fill_numbers(file, starts, &mut numbers);
+    offset_number(numbers[f])
 }
 
 // The whole translated file.

@@ -1,6 +1,5 @@
 -- `agreement::side_by_side` meets its contract.
-use mathlib.Core.Path.{refl}
-use Rattle.procedure_file.specs.LoadedLaws.{loaded, loaded-invariant}
+use Rattle.procedure_file.specs.LoadedLaws.{loaded}
 use Rattle.agreement.specs.SidesLaws.{file-refused}
 use borrow.Author.Needs.{needs}
 use Rattle.agreement.proofs.side_by_side.Statement.{statement}
@@ -23,15 +22,14 @@ sides-loaded-requires c κs =
     let at-enum-told = c .before .before .before .before in
     let at-load = at-enum-told .before .before in
     let entry = at-load .before .before .before .before in
-    let L = loaded (entry .args .file .now) _ _ _ (at-load .load .ensures .0) (at-load .load .ensures .1) (at-enum-told .enum-told .given .1) in
-    (L, (loaded-invariant L .least, refl))
+    loaded (entry .args .file .now) _ _ _ (at-load .load .ensures .0) (at-load .load .ensures .1) (at-enum-told .enum-told .given .1)
 
 returns : tie.Need-returns
 returns c =
     let at-r = c .before .before in
     let at-load = at-r .before .before in
     let entry = at-load .before .before .before .before in
-    file-refused (entry .args .file .now) 0 (entry .args .arguments .now) (entry .args .depth) (entry .args .budget)
+    file-refused (entry .args .file .now) (entry .args .f) (entry .args .arguments .now) (entry .args .depth) (entry .args .budget)
     (record { frames = entry .args .frames .now; room = entry .args .room .now; records = entry .args .records .now }) (c .refused .result) (at-load .load .ensures .0) (at-r .r .given .1)
     (c .refused .ensures)
 

@@ -1,7 +1,5 @@
 -- `report::write_loaded` meets its contract.
-use mathlib.Core.Path.{refl}
 use native.Mathlib.Omega.{arith}
-use Rattle.procedure_file.specs.LoadedLaws.{loaded-invariant}
 use Rattle.report.specs.ReportLaws.{room-refused, loaded-sides, wrote-as}
 use borrow.Author.Needs.{needs}
 use Rattle.report.proofs.write_loaded.Statement.{statement}
@@ -50,7 +48,7 @@ slice-aggregate-sides-loaded-3 c = search needs
 sides-loaded-requires : tie.Need-sides-loaded-requires
 sides-loaded-requires c κs =
     let entry = entry-before-room-checked (c .before .before .before .before .before) in
-    (entry .pre .0, (loaded-invariant (entry .pre .0) .least, refl))
+    entry .pre .0
 
 write-sides-requires : tie.Need-write-sides-requires
 write-sides-requires c κs = search needs
