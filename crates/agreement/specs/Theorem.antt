@@ -19,6 +19,7 @@ use Rattle.semantics.specs.ListLaws.{at-below, getD-at}
 use Rattle.semantics.specs.TranslationLaws.{entry-at}
 use Rattle.semantics.specs.Theorem.{demand3, bench-is-sound}
 use Rattle.semantics.specs.SlotStateLaws.{controller-is-sound}
+use Rattle.semantics.specs.AlikeLaws.{one-more-told}
 use Rattle.semantics.specs.StopLaws.{bench-bound, extras-bound, Together, together, Exactly, exactly, bench-again, controller-left}
 use Rattle.parsing.specs.Parser.{Verdict, accepted, refused}
 use Rattle.parsing.specs.Bytes.{Bytes}
@@ -86,12 +87,6 @@ module _ (t : List ℕ) (g : ℕ) (args : List ℤ) (depth records : ℕ) (ok : 
   unfolding controllerTells controllerVerdict
   controller-tells budget = rw (ok, call-fits g (length (Target.codeOf t)) (length args) (targetOf (Target.codeOf t) g .params) depth records below la depthBound room)
 
-pub told-more : {S : Type 0} (x : Stop S) → oneMoreIfDeep (told x) ≡ oneMoreIfDeep x
-told-more (ended e) = refl
-told-more (spent s) = refl
-told-more (deep s) = refl
-told-more (broken s) = refl
-
 locals-bound : (P : Program) → All FunctionInRange P → (g : ℕ) → functionOf P g .locals ≤ 24
 locals-bound [] a g = omega arith
 locals-bound (F ∷ Fs) a zero = a .0 .locals
@@ -131,7 +126,7 @@ module _ (s : List ℕ) (f : FunctionNumber) (args : List ℤ) (depth : ℕ) (ok
 
     pub budget-is : controllerBudget (Bench.runTells s f args depth budget) ≡ b .steps + x + oneMoreIfDeep (b .stop)
     unfolding controllerBudget
-    budget-is = ap (λ (k : ℕ). b .steps + x + k) (told-more (b .stop))
+    budget-is = ap (λ (k : ℕ). b .steps + x + k) (one-more-told (b .stop))
 
     pub ran-alike : toldOf (translationRun s f args depth (controllerBudget (Bench.runTells s f args depth budget))) ≡ record { stop = told (b .stop); steps = b .steps + x }
     ran-alike = rw (budget-is, runs-together budget .stops .alike, runs-together budget .steps)

@@ -13,7 +13,9 @@ pub mod Translation
 pub mod Extras
 pub mod Matching
 pub mod Statement
--- Laws and theorems: Theorem proves Statement, SlotStateLaws and TranslationRules its claims of the controller and the translation; Cases is computed.
+pub mod Merge
+-- Laws and theorems: Theorem proves Statement, SlotStateLaws and TranslationRules its claims of the controller and the translation;
+-- MergeLaws proves Merge, and AlikeLaws carries it over to the controller; Cases is computed.
 pub mod ValueLaws
 pub mod ListLaws
 pub mod RunLaws
@@ -25,6 +27,8 @@ pub mod Follow
 pub mod FollowCall
 pub mod Theorem
 pub mod StopLaws
+pub mod MergeLaws
+pub mod AlikeLaws
 pub mod SlotStateLaws
 pub mod TranslationRules
 pub mod Cases

@@ -2,10 +2,10 @@
 use Prim.Native.Nat.{ℕ, zero, suc, _+_, _<_}
 use native.Mathlib.Nat.{zero-add, suc-add, not-suc-le-zero, le-of-suc-le-suc}
 use native.Mathlib.Omega.{arith}
-use mathlib.Core.Path.{_≡_, refl, ap, subst}
+use mathlib.Core.Path.{_≡_, refl, ap, _∙_, subst, fun-ext}
 use mathlib.Core.Logic.{_≢_}
-use mathlib.Core.List.{List, [], _∷_, _++_, map}
-use mathlib.Core.Option.{some}
+use mathlib.Core.List.{List, [], _∷_, _++_, map, map-id}
+use mathlib.Core.Option.{some, Option·map}
 use lib.ListN.{length, getElem?, getD, set}
 use Rattle.semantics.specs.Controller.{put}
 use Rattle.semantics.specs.WellFormed.{All}
@@ -42,6 +42,10 @@ module _ {A : Type 0} where
 
   pub all-at : (Q : A → Type 0) (xs : List A) (i : ℕ) (x : A) → All Q xs → getElem? xs i ≡ some x → Q x
   all-at Q xs i x a e = subst Q (getD-at xs i x x e) (all-getD Q xs i x a (at-below xs i x e))
+
+  pub all-every : (Q : A → Type 0) → ((a : A) → Q a) → (xs : List A) → All Q xs
+  all-every Q h [] = tt
+  all-every Q h (x ∷ xs) = (h x, all-every Q h xs)
 
   pub all-append : (Q : A → Type 0) (xs ys : List A) → All Q xs → All Q ys → All Q (xs ++ ys)
   all-append Q [] ys a b = b
@@ -87,7 +91,13 @@ getD-map-below f [] i d e h = absurd (not-suc-le-zero h)
 getD-map-below f (x ∷ xs) zero d e h = refl
 getD-map-below f (x ∷ xs) (suc i) d e h = getD-map-below f xs i d e (le-of-suc-le-suc h)
 
+pub at-map-any : {A B : Type 0} (f : A → B) (xs : List A) (i : ℕ) → getElem? (map f xs) i ≡ Option·map f (getElem? xs i)
+at-map-any f [] i = refl
+at-map-any f (x ∷ xs) zero = refl
+at-map-any f (x ∷ xs) (suc i) = at-map-any f xs i
+
 pub at-map : {A B : Type 0} (f : A → B) (xs : List A) (i : ℕ) (a : A) → getElem? xs i ≡ some a → getElem? (map f xs) i ≡ some (f a)
-at-map f [] i a e = let z : _≡_ {A = ℕ} 0 1 = cc in absurd (omega arith)
-at-map {B = B} f (x ∷ xs) zero a e = cc
-at-map f (x ∷ xs) (suc i) a e = at-map f xs i a e
+at-map f xs i a e = at-map-any f xs i ∙ ap (Option·map f) e
+
+pub map-same : {A : Type 0} (f : A → A) → ((a : A) → f a ≡ a) → (xs : List A) → map f xs ≡ xs
+map-same {A} f e xs = ap (λ (g : A → A). map g xs) (fun-ext e) ∙ map-id xs
