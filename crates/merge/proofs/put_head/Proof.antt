@@ -1,0 +1,43 @@
+-- `merge::put_head` meets its contract.
+use mathlib.Core.List.{[], _∷_}
+use Rattle.translator_bytes.specs.WriteLaws.{wrote-both}
+use borrow.Author.Needs.{needs}
+use Rattle.merge.proofs.put_head.Statement.{statement}
+use Rattle.merge.proofs.put_head.Tie as tie
+
+element-copy-out-put-three : tie.Need-element-copy-out-put-three
+element-copy-out-put-three c = search needs
+
+element-copy-out-put-three-2 : tie.Need-element-copy-out-put-three-2
+element-copy-out-put-three-2 c = search needs
+
+element-copy-out-put-three-3 : tie.Need-element-copy-out-put-three-3
+element-copy-out-put-three-3 c = search needs
+
+put-three-requires : tie.Need-put-three-requires
+put-three-requires c κs = search needs
+
+put-three-requires-2 : tie.Need-put-three-requires-2
+put-three-requires-2 c κs = search needs
+
+same-length : tie.Need-same-length
+same-length c = search needs
+
+returns : tie.Need-returns
+returns c =
+    let at-version = c .before .before in
+    let at-mark = at-version .before .before .before .before in
+    let entry = at-mark .before .before .before .before .before .before .before in
+    wrote-both (83 ∷ 80 ∷ 70 ∷ []) (1 ∷ 0 ∷ entry .args .functions ∷ []) (entry .pre) (at-mark .put-three .ensures) (at-version .put-three2 .ensures)
+
+pub put-head-spec : {M : Type 1} → statement M
+put-head-spec =
+    tie.close
+    (tie.spec
+    element-copy-out-put-three
+    element-copy-out-put-three-2
+    element-copy-out-put-three-3
+    put-three-requires
+    put-three-requires-2
+    same-length
+    returns)
