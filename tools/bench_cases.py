@@ -1,19 +1,19 @@
 #!/usr/bin/env python3
 """Writes the cases of crates/bench_cases and the answers expected: run in the repository's root. Needs both.txt of
-../shared/vectors and of its folder slip-2.
+../shared/vectors and of its folder slip-2, and start.txt of its folder slip-4.
 
 The answers come from tools/procedure.py, and from the words of a frame in docs/FRAMES.md. Where a vector gives the bench's run, the model
 must give the same.
 """
-from procedure import Bench, Function, T, back, call, check, constant, difference, differs, goto, written
-from records import GREATEST, LEAST, Refused, agree, header, judge_call, little, procedure_of, vectors, write
+from procedure import Bench, Function, T, back, call, check, constant, difference, differs, goto, merged, written
+from records import GREATEST, LEAST, Refused, agree, call_of, header, judge_call, little, procedure_of, vectors, write
 
 
 def field(data, at, size, signed=False):
     return int.from_bytes(data[at:at + size], "little", signed=signed)
 
 
-def expected(delta, data):
+def expected(delta, start, data):
     count = data[0]
     at = 4 * count + 1
     if len(data) < at + 6:
@@ -22,10 +22,10 @@ def expected(delta, data):
     depth, budget, file = field(data, at, 2), field(data, at + 2, 4), data[at + 6:]
     try:
         functions = check(file)
-        judge_call(count, functions[0].parameters, depth, delta)
+        judge_call(start, [f.parameters for f in functions], count, depth, delta)
     except Refused as r:
         return f"{r} kept"
-    bench = Bench(file, functions, arguments)
+    bench = Bench(file, functions, start, arguments)
     stop = bench.run(depth, budget)
     frames = "".join(" %d %d %d %d" % frame[:4] for frame in bench.frames)
     return f"{stop} steps {bench.steps} extras {bench.extras} frames{frames} cleared kept"
@@ -34,8 +34,8 @@ def expected(delta, data):
 cases = []
 
 
-def add(file, arguments, depth, budget, delta=140):
-    cases.append((delta, header(arguments, depth, budget) + file))
+def add(file, arguments, depth, budget, delta=140, start=0):
+    cases.append((delta, start, header(arguments, depth, budget) + file))
 
 
 # Document 01's cases of T, and two with a frame waiting.
@@ -59,7 +59,7 @@ for name in ("both.txt", "slip-2/both.txt"):
     for data, text in vectors(name):
         if not 1 <= len(data) <= 400:
             continue
-        cases.append((140, data))
+        cases.append((140, 0, data))
         given = next((line[6:] for line in text.split(" | ") if line.startswith("bench ")), text)
         if name != "both.txt" or not differs(procedure_of(data)):
             agree(data.hex(), given, expected(*cases[-1]).split(" extras")[0].removesuffix(" kept"))
@@ -80,5 +80,48 @@ for functions in lessen:
 for budget in range(8):
     add(written(*lessen[-1]), [LEAST, 1], 2, budget)
 
-write("bench_cases", (bytes([delta]) + little(len(data), 2) + data for delta, data in cases), (expected(*case) + "\n" for case in cases))
+# The vectors with a start function.
+for file, call_text, given, _ in vectors("slip-4/start.txt"):
+    start, arguments, depth, budget = call_of(call_text)
+    add(file, arguments, depth, budget, start=start)
+    agree(file.hex(), given, expected(*cases[-1]).split(" frames")[0])
+
+# Three functions of one parameter, of two and of none, of 1, 3 and 24 locals. The last is started, the number behind it and 255 are absent.
+several = written(
+    Function(1, 1, [call(1, 2, []), difference(1, 0, 1), back(1)]),
+    Function(2, 3, [goto(1)], (2, [difference(2, 0, 1), call(3, 0, [2]), back(3)]), (0, [call(4, 2, []), back(4)])),
+    Function(0, 24, [constant(23, 4), back(23)]))
+for start, arguments in ((0, [9]), (1, [9, 2]), (1, [LEAST, 1]), (2, [])):
+    for depth, budget in ((2, 100), (2, 0), (2, 3), (1, 100), (0, 100)):
+        add(several, arguments, depth, budget, start=start)
+for start in (3, 255):
+    for arguments in ([9], []):
+        add(several, arguments, 2, 100, start=start)
+# 14 is judged by the start function. 9 comes before 14 and 16, 14 before 16, and the file's refusals before all.
+for start in range(3):
+    for arguments in ([], [9], [9, 2], [9] * 3):
+        add(several, arguments, 2, 100, start=start)
+for start in range(4):
+    add(several, [9] * 3, 300, 100, 0, start=start)
+add(several, [9, 2], 257, 100, start=1)
+add(several, [9, 2], 2, 100, 127, start=1)
+add(several, [9, 2], 2, 100, 128, start=1)
+add(several[:-1], [9] * 3, 300, 100, 0, start=255)
+add(several + b"\0", [9], 2, 100, start=1)
+cases.append((140, 255, header([9], 2, 100)[:-1]))
+# As many functions as a file can have: the last, and the one behind it.
+full = written(*(Function(0, 1 + i % 24, [constant(0, i), back(0)]) for i in range(32)))
+for start in (0, 23, 24, 31, 32):
+    add(full, [], 2, 100, start=start)
+# In a merged file, at its old number or its raised one, a function ends as before with the same steps.
+for file, start, arguments in (
+        (T, 0, [5]), (T, 0, [0]), (T, 1, [0]), (several, 0, [9]), (several, 1, [9, 2]), (several, 1, [LEAST, 1]), (several, 2, [])):
+    alone = expected(140, start, header(arguments, 2, 100) + file)
+    for whole, number in ((merged(file, T), start), (merged(T, file), start + 2)):
+        add(whole, arguments, 2, 100, start=number)
+        agree(whole.hex(), alone, expected(*cases[-1]))
+
+write(
+    "bench_cases", (bytes([delta]) + little(len(data), 2) + bytes([start]) + data for delta, start, data in cases),
+    (expected(*case) + "\n" for case in cases))
 print(len(cases), "cases")

@@ -1,40 +1,42 @@
 #!/usr/bin/env python3
 """Writes the cases of crates/controller_cases and the answers expected: run in the repository's root. Needs target.txt of
-../shared/vectors and of its folders slip-2 and slip-3.
+../shared/vectors and of its folders slip-2 to slip-4, and start.txt of slip-4.
 
 The answers come from tools/target.py. Where a vector gives a refusal or a run, the model must give the same.
 """
 from collections import Counter
 
 from procedure import T as PROCEDURE
-from procedure import translation
-from records import GREATEST, LEAST, Refused, agree, constant, difference, duplicate, judge_call, little, signed, vectors, write
+from procedure import Function, back, call, entries, goto, merged, translation, written
+from procedure import check as check_procedure
+from records import GREATEST, LEAST, Refused, agree, call_of, constant, difference, duplicate, judge_call, little, signed, vectors, write
 from target import before_slip_3, both, branch, check, continuation, difference_or_raise, function, handle, jump, resume, run, target
 
 
 def expected(case):
-    delta, arguments, depth, budget, file = case
+    delta, start, arguments, depth, budget, file = case
     try:
         functions = check(file)
-        judge_call(len(arguments), functions[0][0], depth, delta)
+        judge_call(start, [parameters for parameters, _ in functions], len(arguments), depth, delta)
     except Refused as r:
         return f"{r} kept"
-    stop, steps, places = run(functions, arguments, depth, budget)
+    stop, steps, places = run(functions, start, arguments, depth, budget)
     return f"{stop} steps {steps} records" + "".join(f" {p}" for p in places) + " cleared kept"
 
 
 cases = []
 
 
-def add(file, arguments, depth, budget, delta=128):
-    cases.append((delta, list(arguments), depth, budget, bytes(file)))
+def add(file, arguments, depth, budget, delta=128, start=0):
+    cases.append((delta, start, list(arguments), depth, budget, bytes(file)))
 
 
 # The vectors as they stand, and each accepted file with depth 2 and a small budget. Kept for below: a refused file for each number, of
-# Slip 3's vectors for its own numbers only.
+# Slip 3's vectors and of those after it for numbers not told before.
 short = []
 wrong = {}
-for name, told in (("target.txt", before_slip_3), ("slip-2/target.txt", before_slip_3), ("slip-3/target.txt", str)):
+for name, told in (
+        ("target.txt", before_slip_3), ("slip-2/target.txt", before_slip_3), ("slip-3/target.txt", str), ("slip-4/target.txt", str)):
     for file, *fields in vectors(name):
         if len(fields) == 1:
             add(file, [], 256, 100)
@@ -43,12 +45,10 @@ for name, told in (("target.txt", before_slip_3), ("slip-2/target.txt", before_s
             if told is before_slip_3 or number not in wrong:
                 wrong[number] = file
         else:
-            words = fields[0].split()
-            at = words.index("depth")
-            arguments = [int(w) for w in words[1:at] if w != "-"]
-            add(file, arguments, int(words[at + 1]), int(words[at + 3]))
+            start, arguments, depth, budget = call_of(fields[0])
+            add(file, arguments, depth, budget, start=start)
             given = fields[1]
-            short.append((file, arguments))
+            short.append((file, start, arguments))
         agree(file.hex(), given, told(expected(cases[-1]).split(" records")[0].removesuffix(" kept")))
 
 # File T of document 01, translated.
@@ -63,8 +63,8 @@ add(T, [5], 256, most)
 add(T, [5, 6], 256, 100)
 add(T, [5], 257, 100)
 add(T, [5, 6], 257, 100)
-for i, (file, arguments) in enumerate(short):
-    add(file, arguments, 2, 2 + i % 7, 200)
+for i, (file, start, arguments) in enumerate(short):
+    add(file, arguments, 2, 2 + i % 7, 200, start)
 
 # The file's own refusal comes before those of the call.
 for number in sorted(wrong, key=int):
@@ -117,7 +117,7 @@ handed = target(
 
 # Each budget from the first on, up to the end of the run.
 def each_budget(file, arguments, depth, first=0):
-    steps = run(check(file), arguments, depth, 10000)[1]
+    steps = run(check(file), 0, arguments, depth, 10000)[1]
     for budget in range(first, steps + 1):
         add(file, arguments, depth, budget, 255)
 
@@ -135,7 +135,7 @@ for last in (handle(1), resume(0, 2)):
     for depth in (0, 1, 4, 5, 6, 7):
         add(descent(last), [5], depth, most, 129)
 for last in (handle(1), resume(0, 2)):
-    steps = run(check(descent(handle(1))), [255], 256, 10000)[1]
+    steps = run(check(descent(handle(1))), 0, [255], 256, 10000)[1]
     for budget in (steps - 4, steps - 3, steps - 2, steps - 1, steps, most):
         add(descent(last), [255], 256, budget, 255)
 add(descent(handle(1)), [256], 256, most, 255)
@@ -198,9 +198,57 @@ for y, z in ((LEAST, 1), (LEAST, 0), (GREATEST, -1), (GREATEST, 0), (GREATEST, L
 each_budget(guarded, [LEAST, 1], 2)
 each_budget(guarded, [LEAST, 0], 2)
 
+# The vectors with a start function, translated: started at its entry, with the bench's steps and extras, one more where it stopped deep.
+for file, call_text, bench, given in vectors("slip-4/start.txt"):
+    start, arguments, depth, _ = call_of(call_text)
+    number = entries(check_procedure(file))[start]
+    stop, *_, steps, _, extras = bench.split()
+    add(translation(file), arguments, depth, int(steps) + int(extras) + (stop == "deep"), start=number)
+    agree(file.hex(), given, f"controller start {number} " + expected(cases[-1]).split(" records")[0])
+
+# Three functions of one parameter, of two and of 32. The last is started; the number behind it is absent, and so are those beyond a byte.
+several = target(
+    function(1, continuation(3, 4, jump(1, 3, 1, [2, 2]), difference(4, 4, 2) + resume(0, 4))),
+    function(2, both(4, 5, 6, difference_or_raise(7, 2, 3, handle(6), resume(4, 7)), jump(0, 0, 1, [3]), resume(0, 5))),
+    function(32, difference(35, 33, 2) + resume(0, 35)))
+for start, arguments in ((0, [9]), (1, [9, 2]), (1, [LEAST, 1]), (2, range(32))):
+    for depth, budget in ((2, 100), (2, 0), (2, 3), (1, 100), (0, 100)):
+        add(several, arguments, depth, budget, 200, start)
+for start, arguments in ((3, [9]), (255, [9]), (256, [9]), (257, [9, 2]), (258, range(32)), (65535, [9])):
+    add(several, arguments, 2, 100, 200, start)
+# 14 is judged by the start function. 9 comes before 14 and 16, 14 before 16, and the file's refusals before all.
+for start in range(3):
+    for count in (0, 1, 2, 31, 32, 33, 255):
+        add(several, [9] * count, 2, 100, 200, start)
+for start in (0, 1, 2, 3, 65535):
+    add(several, [9] * 3, 300, 100, 0, start)
+add(several, [9, 2], 257, 100, 200, 1)
+add(several, [9, 2], 2, 100, 127, 1)
+for number in sorted(wrong, key=int):
+    add(wrong[number], [1] * 33, 257, most, 0, 65535)
+# As many functions as a file can have: the last, and the one behind it.
+full = target(*[function(0, handle(1))] * 2047, function(0, constant(2, -5) + resume(0, 2)))
+for start in (2047, 2048):
+    add(full, [], 0, 100, 200, start)
+
+# T's blocks: an entry takes the parameter, a labelled block both variables.
+for start in range(7):
+    add(T, [0], 2, 100, 200, start)
+    add(T, [0, 5], 2, 100, 200, start)
+# In a merged file, at the entry of its old number or its raised one, a function ends as before with the same steps.
+lessened = written(
+    Function(2, 3, [goto(1)], (2, [call(3, 1, [0, 1]), back(3)]), (0, [back(0)])), Function(2, 0, [difference(0, 0, 1), back(0)]))
+for file, start, arguments in (
+        (PROCEDURE, 0, [5]), (PROCEDURE, 0, [0]), (PROCEDURE, 1, [0]), (lessened, 0, [9, 2]), (lessened, 0, [LEAST, 1]), (lessened, 1, [LEAST, 1])):
+    add(translation(file), arguments, 2, 100, 200, entries(check_procedure(file))[start])
+    alone = expected(cases[-1])
+    for whole, number in ((merged(file, PROCEDURE), start), (merged(PROCEDURE, file), start + 2)):
+        add(translation(whole), arguments, 2, 100, 200, entries(check_procedure(whole))[number])
+        agree(whole.hex(), alone, expected(cases[-1]))
+
 write(
     "controller_cases",
-    (bytes([delta, len(arguments)]) + little(depth, 2) + little(budget, 8) + little(len(file), 3) + signed(arguments) + file
-     for delta, arguments, depth, budget, file in cases),
+    (bytes([delta, len(arguments)]) + little(depth, 2) + little(budget, 8) + little(len(file), 3) + little(start, 2) + signed(arguments) + file
+     for delta, start, arguments, depth, budget, file in cases),
     (expected(case) + "\n" for case in cases))
 print(len(cases), Counter(" ".join(line.split()[:2]) if line.startswith("refused") else line.split()[0] for line in map(expected, cases)))

@@ -62,9 +62,20 @@ def wrapped(z):
     return (z - LEAST) % 2 ** 32 + LEAST
 
 
-def judge_call(given, wanted, depth, delta):
-    """The refusals of a machine's call: 14, then 16. `delta` less 128 is how many words are lent beyond 48 a frame of the depth."""
-    if given != wanted:
+def call_of(text):
+    """A call as a vector gives it: start function (0 where none is named), arguments, depth and budget."""
+    words = text.split()
+    first, depth = words.index("arguments") + 1, words.index("depth")
+    start = int(words[1]) if words[0] == "start" else 0
+    return start, [int(w) for w in words[first:depth] if w != "-"], int(words[depth + 1]), int(words[depth + 3])
+
+
+def judge_call(start, parameters, given, depth, delta):
+    """The refusals of a machine's call: 9, 14, then 16. `parameters` are the parameter counts of the functions; `delta` less 128 is how many
+    words are lent beyond 48 a frame of the depth."""
+    if start >= len(parameters):
+        raise Refused(9, 0)
+    if given != parameters[start]:
         raise Refused(14, 0)
     if depth > 256 or max(0, 48 * depth + delta - 128) < 48 * depth:
         raise Refused(16, 0)

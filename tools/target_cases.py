@@ -1,6 +1,6 @@
 #!/usr/bin/env python3
 """Writes the cases of crates/target_cases and the answers expected: run in the repository's root. Needs target.txt of
-../shared/vectors and of its folders slip-2 and slip-3.
+../shared/vectors and of its folders slip-2 to slip-4.
 
 The answers come from the checker of tools/target.py.
 """
@@ -30,7 +30,7 @@ def answer(file):
         return str(r)
 
 
-for name in ("target.txt", "slip-2/target.txt", "slip-3/target.txt"):
+for name in ("target.txt", "slip-2/target.txt", "slip-3/target.txt", "slip-4/target.txt"):
     for file, *_ in vectors(name):
         add(file)
 
@@ -116,9 +116,9 @@ for x in (35, 36, 255):
             bound + duplicate(3, x) + resume(0, 2), bound + difference(3, x, 2) + resume(0, 2), bound + difference(3, 2, x) + resume(0, 2),
             difference_or_raise(x, 2, 2, raising, raising), bound + difference_or_raise(3, x, 2, raising, raising),
             bound + difference_or_raise(3, 2, x, raising, raising), continuation(x, 3, raising, raising), continuation(3, x, raising, raising),
-            both(x, 3, 4, raising, raising, raising), both(3, x, 4, raising, raising, raising), both(3, 4, x, raising, raising, raising), bound + resume(0, x), bound + resume(x, 2),
-            handle(x), bound + branch(x, 2, raising, raising), bound + branch(2, x, raising, raising), bound + jump(0, 0, 1, [x]),
-            bound + jump(0, x, 1, [2]), bound + jump(0, 0, x, [2])):
+            both(x, 3, 4, raising, raising, raising), both(3, x, 4, raising, raising, raising), both(3, 4, x, raising, raising, raising),
+            bound + resume(0, x), bound + resume(x, 2), handle(x), bound + branch(x, 2, raising, raising), bound + branch(2, x, raising, raising),
+            bound + jump(0, 0, 1, [x]), bound + jump(0, x, 1, [2]), bound + jump(0, 0, x, [2])):
         add_body(body)
 
 # Each kind where each other is needed: slot 2 whole, 0 continuation, 1 handler, 9 unbound.

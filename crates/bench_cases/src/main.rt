@@ -1,7 +1,8 @@
 // Runs the bench over records from standard input, and writes a line for each: what it tells, the first words of the waiting frames,
 // and whether the other words are as they should be.
-// A record is a number of words to lend less than or beyond 48 a frame (one byte, 128 for none), a length (2 bytes, the low byte first),
-// and the input of `both`: argument count, arguments, depth, budget, file.
+// A record is a head of 4 bytes and the input of `both`: argument count, arguments, depth, budget, file. The head is a number of words to
+// lend less than or beyond 48 a frame (one byte, 128 for none), the length of the input (2 bytes, the low byte first) and the start function
+// (1 byte).
 use bench::machine::Answer;
 use bench::machine::run;
 use case_fields::record::argument_bytes;
@@ -17,6 +18,7 @@ use case_io::words::print_frames;
 use case_io::words::print_refused;
 use case_io::words::print_rest;
 use case_io::words::print_stop;
+use casts::byte_number;
 use casts::pair;
 use casts::word;
 use parsing::Checked;
@@ -42,18 +44,18 @@ fn print_answer(a: Answer, words: &[i32], depth: usize) {
     say(b"\n");
 }
 
-fn run_on(given: &[u8], file: &[u8], depth: usize, budget: u32, delta: u8) {
+fn run_on(given: &[u8], file: &[u8], start: usize, depth: usize, budget: u32, delta: u8) {
     let mut args = [0i32; 256];
     let n = arguments(given, &mut args);
     let mut space = [UNTOUCHED; 13000];
     let words: &mut [i32] = &mut space;
     let many = lent(words, depth, delta);
-    let a = run(file, 0, &args[..n], depth, budget, &mut words[..many]);
+    let a = run(file, start, &args[..n], depth, budget, &mut words[..many]);
     print_answer(a, words, depth);
 }
 
 // The input of a record.
-fn run_case(input: &[u8], delta: u8) {
+fn run_case(input: &[u8], start: usize, delta: u8) {
     if input.len() < 1 {
         return;
     }
@@ -70,12 +72,12 @@ fn run_case(input: &[u8], delta: u8) {
         byte_at(input, at + 4),
         byte_at(input, at + 5),
     );
-    run_on(&input[1..at], &input[past..], depth, budget, delta);
+    run_on(&input[1..at], &input[past..], start, depth, budget, delta);
 }
 
 // One record; false at the end of the input.
 fn run_record() -> bool {
-    let mut head = [0u8; 3];
+    let mut head = [0u8; 4];
     if !read_whole(&mut head) {
         return false;
     }
@@ -85,7 +87,7 @@ fn run_record() -> bool {
     if got < size {
         return false;
     }
-    run_case(&buffer[..got], head[0]);
+    run_case(&buffer[..got], byte_number(head[3]), head[0]);
     true
 }
 

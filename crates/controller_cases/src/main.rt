@@ -1,8 +1,8 @@
 // Runs the controller over records from standard input, and writes a line for each: what it tells, the first words of the records in use
 // where it stopped, and whether the other words are as they should be.
-// A record of the input is a head of 15 bytes, the arguments (4 bytes each) and a translated file. The head is a number of words to lend
-// less than or beyond 48 a record (one byte, 128 for none), argument count (1 byte), depth (2), budget (8), length of the file (3), the low
-// byte first.
+// A record of the input is a head of 17 bytes, the arguments (4 bytes each) and a translated file. The head is a number of words to lend
+// less than or beyond 48 a record (one byte, 128 for none), argument count (1 byte), depth (2), budget (8), length of the file (3) and start
+// function (2), the low byte first.
 use case_fields::record::argument_bytes;
 use case_fields::record::arguments;
 use case_fields::words::UNTOUCHED;
@@ -43,19 +43,19 @@ fn print_answer(a: Answer, words: &[i32], depth: usize) {
     say(b"\n");
 }
 
-fn run_on(given: &[u8], file: &[u8], depth: usize, budget: u64, delta: u8) {
+fn run_on(given: &[u8], file: &[u8], start: usize, depth: usize, budget: u64, delta: u8) {
     let mut args = [0i32; 256];
     let n = arguments(given, &mut args);
     let mut space = [UNTOUCHED; 13000];
     let words: &mut [i32] = &mut space;
     let many = lent(words, depth, delta);
-    let a = run(file, 0, &args[..n], depth, budget, &mut words[..many]);
+    let a = run(file, start, &args[..n], depth, budget, &mut words[..many]);
     print_answer(a, words, depth);
 }
 
 // One record; false at the end of the input.
 fn run_record() -> bool {
-    let mut head = [0u8; 15];
+    let mut head = [0u8; 17];
     if !read_whole(&mut head) {
         return false;
     }
@@ -76,6 +76,7 @@ fn run_record() -> bool {
     run_on(
         &given[..got],
         &buffer[..read],
+        pair(head[15], head[16]),
         pair(head[2], head[3]),
         double_word(low, high),
         head[0],
