@@ -129,7 +129,7 @@ table =
 
 pub cases : All Holds table
 unfolding sidesTell controllerBudget sidesVerdict callVerdict startVerdict argumentsVerdict wordsVerdict roomVerdict translationOf checkOf
-    programOf Layout.program Layout.function Layout.heading Layout.labelled Layout.block Layout.walk Operation.operationAt
+    programOf Layout.program Layout.functions Layout.function Layout.heading Layout.labelled Layout.block Layout.walk Operation.operationAt
     Operation.constantAt Operation.copyAt Operation.differenceAt Operation.callAt Operation.gotoAt Operation.returnAt
     Operation.branchAt Operation.endAt Fields.head Fields.version Fields.count Fields.ended Fields.valueOf Names.namesOf
     Writing.writing Target.codeOf TargetLayout.code TargetLayout.targets TargetLayout.functions TargetLayout.function

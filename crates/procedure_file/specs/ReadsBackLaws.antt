@@ -16,7 +16,7 @@ use Rattle.semantics.specs.ListLaws.{all-getD}
 use Rattle.procedure_operations.specs.declared.operation.Operation.{Operation}
 use Rattle.procedure_operations.specs.declared.operation.Operation.the-variants.{Constant, Copy, Difference, Call, Goto, Return, Branch, Raise}
 use Rattle.procedure_operations.specs.Operation.{operationAt}
-use Rattle.procedure_layout.specs.Layout.{spf, fileLimit, argumentsAt, blockFrom, before, block, labelled, heading, function, program}
+use Rattle.procedure_layout.specs.Layout.{spf, fileLimit, argumentsAt, blockFrom, before, block, labelled, heading, function, functions, program}
 use Rattle.parsing.specs.Bytes.{valueBytes}
 use Rattle.parsing.specs.BytesLaws.{value-forth}
 use Rattle.procedure_names.specs.Writing.{blockBytes, labelledBytes, functionBytes, writing, ValuesFit, FunctionInRange, InRange}
@@ -135,7 +135,7 @@ function-reads F r =
     (λ s m. refl)))
 
 pub reads-program : (P : Program) → InRange P → length (writing P) ≤ fileLimit → program (writing P) 0 ≡ read P (length (writing P))
-unfolding program writing
+unfolding program functions writing
 reads-program P r fits =
     let s : List ℕ = 83 ∷ 80 ∷ 70 ∷ 1 ∷ 0 ∷ length P ∷ joined functionBytes P in
     let a = reads-head spf fileLimit s (length P ∷ joined functionBytes P) refl fits in

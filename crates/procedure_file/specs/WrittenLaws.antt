@@ -13,7 +13,7 @@ use Rattle.parsing.specs.ParserLaws.{sequence, ReadMany, none, one, read-many, 
 use Rattle.parsing.specs.BytesAtLaws.{BytesAt, bytes-at-join, bytes-at-cons, bytes-at-byte, span, bytes-at-span, bytes-at-many, read-head, read-ended}
 use Rattle.semantics.specs.Program.{Block, Labelled, Function, Program}
 use Rattle.semantics.specs.WellFormed.{All}
-use Rattle.procedure_layout.specs.Layout.{spf, fileLimit, argumentsAt, block, labelled, Heading, heading, function, program}
+use Rattle.procedure_layout.specs.Layout.{spf, fileLimit, argumentsAt, block, labelled, Heading, heading, function, functions, program}
 use Rattle.parsing.specs.Bytes.{Bytes, valueBytes}
 use Rattle.parsing.specs.BytesLaws.{value-back, value-range}
 use Rattle.procedure_names.specs.Writing.{blockBytes, labelledBytes, functionBytes, writing, ValuesFit, FunctionInRange, InRange}
@@ -152,9 +152,9 @@ module _ (s : List ℕ) (bytes : Bytes s) where
       (bytes-at-join s (bytes-at-block s bytes (r .entry)) (bytes-at-many labelled labelledBytes s bytes-at-labelled (r .labels)))
 
   pub read-program : (P : Program) (next : ℕ) → program s 0 ≡ read P next → ReadProgram s P
-  unfolding program
+  unfolding program functions
   read-program P next e =
-      let a = sequence (head spf fileLimit s 0) (λ u m₂. andThen (count 1 32 s m₂) (λ n m₃. andThen (many n function s m₃) (λ fs m₄. andThen (ended s m₄) (λ w m₅. read fs m₅)))) e in
+      let a = sequence (head spf fileLimit s 0) (λ u m₂. functions s m₂) e in
       let c = sequence (count 1 32 s (a .middle)) (λ n m₃. andThen (many n function s m₃) (λ fs m₄. andThen (ended s m₄) (λ w m₅. read fs m₅))) (a .follows) in
       let d = sequence (many (c .first) function s (c .middle)) (λ fs m₄. andThen (ended s m₄) (λ w m₅. read fs m₅)) (c .follows) in
       let f = sequence (ended s (d .middle)) (λ w m₅. read (d .first) m₅) (d .follows) in

@@ -76,11 +76,16 @@ function = do
   bs ← many (h .blocks) labelled
   give (record { params = h .params; locals = h .locals; entry = b; blocks = bs })
 
--- "Mark `SPF`, version (16 bits, 1), function count (1 to 32)", the functions, and no bytes left over.
-unfoldable pub program : Parser Program
-program = do
-  _ ← head spf fileLimit
+-- Behind the head: "function count (1 to 32)", the functions, and no bytes left over.
+unfoldable pub functions : Parser Program
+functions = do
   n ← count 1 maxFunctions
   fs ← many n function
   _ ← ended
   give fs
+
+-- "Mark `SPF`, version (16 bits, 1)", and the functions.
+unfoldable pub program : Parser Program
+program = do
+  _ ← head spf fileLimit
+  functions

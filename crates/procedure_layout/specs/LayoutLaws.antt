@@ -15,7 +15,7 @@ use Rattle.semantics.specs.Program.{Block, Labelled, Function, Program}
 use Rattle.procedure_operations.specs.declared.operation.Operation.{Operation}
 use Rattle.procedure_layout.specs.declared.layout.After.the-variants.{Onward, Ended, Halted}
 use Rattle.procedure_operations.specs.Operation.{operationAt}
-use Rattle.procedure_layout.specs.Layout.{spf, fileLimit, blockFrom, before, block, labelled, Heading, heading, function, program}
+use Rattle.procedure_layout.specs.Layout.{spf, fileLimit, blockFrom, before, block, labelled, Heading, heading, function, functions, program}
 use Rattle.procedure_layout.specs.After.{afterOf, blocksOf, endOf}
 use Rattle.procedure_operations.specs.ViewLaws.{View, isConstant, isCopy, isDifference, isCall, isGoto, isReturn, isBranch, isRaise, isRefused, view}
 use Rattle.procedure_layout.specs.WalkLaws.{block-law}
@@ -218,16 +218,16 @@ module _ (s : List ℕ) where
     after-head = past-head s spf fileLimit whole .1
 
     pub program-2 : (r : Refusal) → counted (count 1 32 s 5) ≡ Outside r → pastOf (program s 0) ≡ Stopped r
-    unfolding program
+    unfolding program functions
     program-2 r e = rw (after-head, count-outside 1 32 s 5 e)
 
     module _ (n : ℕ) (some : counted (count 1 32 s 5) ≡ Is n) where
       pub program-3 : (r : Refusal) → pastOf (many n function s 6) ≡ Stopped r → pastOf (program s 0) ≡ Stopped r
-      unfolding program
+      unfolding program functions
       program-3 r e = rw (after-head, count-is 1 32 s 5 some, past-refuse (many n function s 6) e)
 
       pub program-4 : (m : ℕ) → pastOf (many n function s 6) ≡ Past m → pastOf (program s 0) ≡ pastOf (ended s m)
-      unfolding program
+      unfolding program functions
       program-4 m e =
           let f = past-read (many n function s 6) e in
           rw (after-head, count-is 1 32 s 5 some, f .is) (go (f .what) (ended s m))
@@ -240,7 +240,7 @@ module _ (s : List ℕ) where
   pub program-fits : {P : Program} {next : ℕ} → program s 0 ≡ read P next → length s ≤ fileLimit
   unfolding program
   program-fits e =
-      let h = sequence (head spf fileLimit s 0) (λ u m. andThen (count 1 32 s m) (λ n m₂. andThen (many n function s m₂) (λ fs m₃. andThen (ended s m₃) (λ v m₄. read fs m₄)))) e in
+      let h = sequence (head spf fileLimit s 0) (λ u m. functions s m) e in
       read-head s spf fileLimit (h .reads) .0
 
 -- The offset past a block, from its end.
