@@ -1,10 +1,11 @@
-// The head of a file of either kind: its size, its mark and its version.
+// The head of a file of either kind: its mark, its version and its size.
 use parsing::Refusal;
 use parsing::Scan;
 use parsing::refusals;
 ghost use mathlib.Core.Path.{_≡_};
 ghost use Rattle.parsing.specs.Parser.{pastOf};
-ghost use Rattle.parsing.specs.Fields.{marked, version, head};
+ghost use Rattle.parsing.specs.Fields.{marked, version, within, head};
+ghost use Rattle.file_head.specs.Turn.{inTurn};
 
 // The mark at the head of a file: its bytes are judged one by one.
 fn mark_end(file: &[u8], mark: &[u8]) -> Scan
@@ -63,9 +64,9 @@ fn version_end(file: &[u8], at: usize) -> Scan
     Scan::Past(past)
 }
 
-// The head of a file: its size against the limit, its mark and its version.
-pub fn head_end(file: &[u8], mark: &[u8], limit: usize) -> Scan
-    ensures { λ r. ⌜ r ≡ pastOf (head (now (mark .entry)) limit (now (file .entry)) 0) ⌝ }
+// The size, judged against the limit; `at` is where reading goes on.
+fn size_end(file: &[u8], at: usize, limit: usize) -> Scan
+    ensures { λ r. ⌜ r ≡ pastOf (within limit (now (file .entry)) at) ⌝ }
 {
     if limit < file.len() {
         return Scan::Stopped(Refusal {
@@ -73,8 +74,26 @@ pub fn head_end(file: &[u8], mark: &[u8], limit: usize) -> Scan
             place: limit,
         });
     }
-    match mark_end(file, mark) {
+    Scan::Past(at)
+}
+
+// Two parts in turn: a refusal of the first stands, else it is what the second finds.
+fn in_turn(first: Scan, second: Scan) -> Scan
+    ensures { λ r. ⌜ r ≡ inTurn first second ⌝ }
+{
+    match first {
         Scan::Stopped(r) => Scan::Stopped(r),
-        Scan::Past(next) => version_end(file, next),
+        Scan::Past(_) => second,
     }
+}
+
+// The head of a file: its mark, its version, then its size against the limit.
+pub fn head_end(file: &[u8], mark: &[u8], limit: usize) -> Scan
+    ensures { λ r. ⌜ r ≡ pastOf (head (now (mark .entry)) limit (now (file .entry)) 0) ⌝ }
+{
+    let at = mark.len();
+    let marked = mark_end(file, mark);
+    let version = version_end(file, at);
+    let size = size_end(file, at + 2, limit);
+    in_turn(marked, in_turn(version, size))
 }

@@ -1,6 +1,6 @@
 -- What was read is what was written: the bytes from an offset on are the writing of what was read, and what is left.
 use Prim.Native.Nat.{ℕ, zero, suc, _+_, _*_, _≤_, _<_}
-use mathlib.Core.Path.{_≡_, refl, sym, ap, _∙_}
+use mathlib.Core.Path.{_≡_, refl, sym, ap, _∙_, subst}
 use mathlib.Core.Bool.{Bool, true, false, cond}
 use mathlib.Core.List.{List, [], _∷_, _++_, append-assoc}
 use native.Mathlib.Omega.{arith}
@@ -11,7 +11,7 @@ use lib.ListN.{length, getD, take, drop, length-append}
 use lib.Seq.{drop-cons}
 use Rattle.parsing.specs.declared.Scan.the-variants.{Past}
 use Rattle.parsing.specs.Parser.{refusal, Parsed, read, refuse, Parser, andThen, joined, pastOf}
-use Rattle.parsing.specs.Fields.{cut, marked, version, head, ended}
+use Rattle.parsing.specs.Fields.{cut, marked, version, within, head, ended}
 use Rattle.parsing.specs.ParserLaws.{impossible, sequence, ReadMany, none, one}
 
 -- The bytes w stand from `at` on, up to `next`.
@@ -71,19 +71,22 @@ module _ (s : List ℕ) where
       go true false i j w = impossible (cc)
       go false v i j w = impossible (cc)
 
+  read-within : (limit at : ℕ) {u : Unit {0}} {next : ℕ} → within limit s at ≡ read u next → (length s ≤ limit) × (at ≡ next)
+  read-within limit at {u} {next} e = go (leb (length s) limit) refl e
+    where
+      go : (t : Bool) → leb (length s) limit ≡ t → cond t (read tt at) (refuse (refusal 15 limit)) ≡ read u next → (length s ≤ limit) × (at ≡ next)
+      go true l w = (leb-true (length s) limit l, cc)
+      go false l w = impossible (cc)
+
   -- A head that was read: the file is within the limit, and begins with the mark and the version.
   pub read-head : (ms : List ℕ) (limit : ℕ) {u : Unit {0}} {next : ℕ} → head ms limit s 0 ≡ read u next
       → (length s ≤ limit) × BytesAt s 0 next (ms ++ 1 ∷ 0 ∷ [])
   unfolding head
-  read-head ms limit {u} {next} e = go (leb (length s) limit) refl e
-    where
-      go : (t : Bool) → leb (length s) limit ≡ t
-          → andThen {A = Unit {0}} (cond t (read tt 0) (refuse (refusal 15 limit))) (λ v m. andThen (marked ms s m) (λ w k. version s k)) ≡ read u next
-          → (length s ≤ limit) × BytesAt s 0 next (ms ++ 1 ∷ 0 ∷ [])
-      go true l w =
-          let a = sequence (marked ms s 0) (λ w k. version s k) w in
-          (leb-true (length s) limit l, bytes-at-join (bytes-at-marked ms 0 (a .reads)) (bytes-at-version (a .middle) (a .follows)))
-      go false l w = impossible (cc)
+  read-head ms limit {u} {next} e =
+      let a = sequence (marked ms s 0) (λ v k. andThen (version s k) (λ w m. within limit s m)) e in
+      let b = sequence (version s (a .middle)) (λ w m. within limit s m) (a .follows) in
+      let c = read-within limit (b .middle) (b .follows) in
+      (c .0, subst (λ (m : ℕ). BytesAt s 0 m (ms ++ 1 ∷ 0 ∷ [])) (c .1) (bytes-at-join (bytes-at-marked ms 0 (a .reads)) (bytes-at-version (a .middle) (b .reads))))
 
   -- The same, from the offset past it.
   pub past-head : (ms : List ℕ) (limit : ℕ) {next : ℕ} → pastOf (head ms limit s 0) ≡ Past next

@@ -37,12 +37,12 @@ version s at =
 abbrev pub within : ℕ → Parser (Unit {0})
 within limit s at = cond (leb (length s) limit) (read tt at) (refuse (refusal fileTooLong limit))
 
--- The head of a file, by its mark and its limit. "Order: 15; then 1 to 6": the size, the mark, the version.
+-- The head of a file, by its mark and its limit. "Mark and version are to be tested before size" (document 02, Slip 5).
 unfoldable pub head : List ℕ → ℕ → Parser (Unit {0})
 head mark limit = do
-  _ ← within limit
   _ ← marked mark
-  version
+  _ ← version
+  within limit
 
 -- "5 count .. outside its range".
 unfoldable pub count : ℕ → ℕ → Parser ℕ

@@ -91,8 +91,8 @@ pub reads-head : (ms : List ℕ) (limit : ℕ) (s rest : List ℕ) → s ≡ ms 
 unfolding head
 reads-head ms limit s rest e h =
     let p : 0 + length ms ≡ length ms = omega arith in
-    rw (le-leb (length s) limit h, reads-marked ms .reads s 0 (1 ∷ 0 ∷ rest) e, p)
-    (reads-version .reads s (length ms) rest (ap (λ (k : ℕ). drop k s) (sym p) ∙ behind s 0 ms (1 ∷ 0 ∷ rest) e))
+    let v = reads-version .reads s (length ms) rest (ap (λ (k : ℕ). drop k s) (sym p) ∙ behind s 0 ms (1 ∷ 0 ∷ rest) e) in
+    rw (reads-marked ms .reads s 0 (1 ∷ 0 ∷ rest) e, p, v, le-leb (length s) limit h)
 
 pub reads-ended : (s : List ℕ) (at : ℕ) → length s ≤ at → ended s at ≡ read tt at
 unfolding ended

@@ -1,5 +1,5 @@
--- The checker's answer for every list of bytes, in document 01's order: 15; then 1 to 6 over the whole file in reading order; then 7 to
--- 10 over the whole file in reading order.
+-- The checker's answer for every list of bytes, in document 01's order as Slip 5 of document 02 has it: 1 and 2; 15; then 3 to 6 over the
+-- whole file in reading order; then 7 to 10 over the whole file in reading order.
 use Prim.Native.Nat.{ℕ}
 use mathlib.Core.List.{List, []}
 use Rattle.semantics.specs.Program.{Program}

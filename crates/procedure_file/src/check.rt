@@ -129,7 +129,7 @@ fn load_laid(file: &[u8], starts: &mut [u16; 2048]) -> Checked
     }
 }
 
-// Document 01's check of a procedure file: 15; then 1 to 6; then 7 to 10. The table of an accepted file is left in `starts`.
+// Document 01's check of a procedure file, with Slip 5's order: 1 and 2; 15; then 3 to 6; then 7 to 10. The table of an accepted file is left in `starts`.
 pub fn load(file: &[u8], starts: &mut [u16; 2048]) -> Checked
     ensures { λ r. ⌜ (verdictOf r ≡ checkOf (now (file .entry))) × LoadedOr (checkOf (now (file .entry))) (now (file .entry)) (now (starts .entry)) (now (starts .exit)) ⌝ }
 {

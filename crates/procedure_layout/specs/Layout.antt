@@ -1,4 +1,4 @@
--- The layout of a procedure file (document 01, 'The procedure file'): which program its bytes are, or the first refusal of 15 and 1 to 6.
+-- The layout of a procedure file (document 01, 'The procedure file'): which program its bytes are, or the first refusal of 1 to 6 and 15.
 use Prim.Native.Nat.{ℕ, zero, suc}
 use mathlib.Core.List.{List, [], _∷_}
 use lib.ListN.{length}

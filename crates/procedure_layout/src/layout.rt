@@ -1,4 +1,4 @@
-// The layout of a file: the refusals 15 and 1 to 6.
+// The layout of a file: the refusals 1 to 6 and 15.
 use parsing::Count;
 use parsing::Refusal;
 use parsing::Scan;

@@ -7,14 +7,15 @@ use mathlib.Core.List.{List, [], _∷_, _++_}
 use lib.Dec.{leb}
 use lib.IntN.{ℤ}
 use lib.ListN.{length, getD, take, drop, set, length-set, length-drop}
-use lib.Seq.{take-all, take-length, take-suc-set, getD-take, length-take-le}
+use lib.Seq.{take-all, take-length, take-suc-set, getD-take, getD-drop, length-take-le}
 use borrow.Author.Tests.{le-leb, lt-leb, leb-true, leb-false}
 use Rattle.parsing.specs.Bytes.{Bytes}
 use Rattle.parsing.specs.Fields.{head}
-use Rattle.file_head.specs.HeadLaws.{head-long}
+use Rattle.parsing.specs.BytesAtLaws.{read-head}
+use Rattle.file_head.specs.HeadLaws.{head-alike}
 use Rattle.parsing.specs.declared.Scan.{Scan}
 use Rattle.parsing.specs.declared.Scan.the-variants.{Past, Stopped}
-use Rattle.parsing.specs.Parser.{Verdict, verdictOf, pastOf}
+use Rattle.parsing.specs.Parser.{Parsed, read, refuse, Verdict, verdictOf, pastOf}
 use Rattle.parsing.specs.declared.Refusal.{Refusal}
 use Rattle.parsing.specs.declared.Checked.{Checked}
 use Rattle.parsing.specs.declared.Checked.the-variants.{Accepted, Refused}
@@ -140,13 +141,38 @@ with-header s h {k} {depth} {budget} {args} ek ea ed eb = rw (le-leb (headerOf s
 
 -- ── What is left unread changes nothing ─────────────────────────────────────────────────────────
 
--- An input with more than 2,048 bytes behind its header.
-long-input : (s : List ℕ) → headerOf s + 2048 < length s → refusedText 15 2048 ≡ textOf s
+-- An input with more than 2,048 bytes behind its header: a refusal of its head is its text.
+long-input : (s : List ℕ) → headerOf s + 2048 < length s → {r : Refusal} → head spf 2048 (drop (headerOf s) s) 0 ≡ refuse r → refusedText (r .number) (r .place) ≡ textOf s
 unfolding textOf
-long-input s h =
+long-input s h e =
     rw (le-leb (headerOf s) (length s) (omega arith))
-    (let l : length (drop (headerOf s) s) ≡ length s - headerOf s = length-drop (headerOf s) s in
-    head-refused (drop (headerOf s) s) (argumentsOf s (countOf s)) (depthOf s) (budgetOf s) refl (sym (head-long spf 2048 (drop (headerOf s) s) (omega arith))))
+    (head-refused (drop (headerOf s) s) (argumentsOf s (countOf s)) (depthOf s) (budgetOf s) refl (ap pastOf e))
+
+-- An input of more than 4,096 bytes, and its first 4,096: the same head stands behind both headers, and is refused.
+module _ (s : List ℕ) (bytes : Bytes s) (long : 4096 < length s) where
+  header-first : headerOf (take 4096 s) ≡ headerOf s
+  header-first = ap (λ (n : ℕ). 4 * n + 7) (getD-take 4096 s 0 0 (omega arith))
+
+  length-first : length (take 4096 s) ≡ 4096
+  length-first = length-take-le 4096 s (omega arith)
+
+  header-bound : headerOf s < 1028
+  header-bound = let b : countOf s < 256 = bytes 0 in omega arith
+
+  byte-first : (i : ℕ) → i < 5 → getD (drop (headerOf (take 4096 s)) (take 4096 s)) i 0 ≡ getD (drop (headerOf s) s) i 0
+  byte-first i h =
+      rw (header-first, getD-drop (headerOf s) (take 4096 s) i 0, getD-drop (headerOf s) s i 0) (getD-take 4096 s (headerOf s + i) 0 (omega (arith, header-bound)))
+
+  head-first : head spf 2048 (drop (headerOf (take 4096 s)) (take 4096 s)) 0 ≡ head spf 2048 (drop (headerOf s) s) 0
+  head-first =
+      head-alike _ _ spf 2048 (omega arith)
+      (omega (arith, length-drop (headerOf (take 4096 s)) (take 4096 s), header-first, length-first, header-bound))
+      (omega (arith, length-drop (headerOf s) s, header-bound)) byte-first
+
+  first-text : (x : Parsed (Unit {0})) → head spf 2048 (drop (headerOf s) s) 0 ≡ x → textOf (take 4096 s) ≡ textOf s
+  first-text (read u next) e = absurd (omega (arith, read-head (drop (headerOf s) s) spf 2048 e .0, length-drop (headerOf s) s, header-bound))
+  first-text (refuse r) e =
+      sym (long-input (take 4096 s) (omega (arith, header-first, length-first, header-bound)) (head-first ∙ e)) ∙ long-input s (omega (arith, header-bound)) e
 
 -- The first 4,096 bytes of an input make its text.
 pub whole-input : (s : List ℕ) → Bytes s → textOf (take 4096 s) ≡ textOf s
@@ -154,9 +180,4 @@ whole-input s bytes = by (leb (length s) 4096) refl
   where
     by : (c : Bool) → leb (length s) 4096 ≡ c → textOf (take 4096 s) ≡ textOf s
     by true e = ap textOf (take-all 4096 s (leb-true (length s) 4096 e))
-    by false e =
-        let l : 4096 < length s = leb-false (length s) 4096 e in
-        let b : countOf s < 256 = bytes 0 in
-        let q : countOf (take 4096 s) ≡ countOf s = getD-take 4096 s 0 0 (omega arith) in
-        let k : length (take 4096 s) ≡ 4096 = length-take-le 4096 s (omega arith) in
-        sym (long-input (take 4096 s) (omega arith)) ∙ long-input s (omega arith)
+    by false e = first-text s bytes (leb-false (length s) 4096 e) (head spf 2048 (drop (headerOf s) s) 0) refl

@@ -114,7 +114,7 @@ fn write_loaded(
     write_sides(out, a)
 }
 
-// A file: at most 2,048 bytes, and checked once.
+// A file: its head by the limit of 2,048 bytes, and checked once.
 fn write_file(out: &mut [u8], file: &[u8], arguments: &[i32], depth: usize, budget: u32) -> usize
     requires { ⌜ 256 ≤ length (now out) ⌝ }
     ensures { λ r. ⌜ WroteText 0 (fileText (now (file .entry)) (now (arguments .entry)) depth budget) (now (out .entry)) r (now (out .exit)) ⌝ }

@@ -30,7 +30,7 @@ fn names_loaded(file: &[u8], starts: &mut [u16; 2048]) -> Checked
     }
 }
 
-// The check, and where the file is accepted its table. 15; then 1 to 6 and 12 over the whole file; then 9, 10, 11, 13 and 19 to 21 over the whole file.
+// The check, and where the file is accepted its table. 1 and 2; 15; then 3 to 6 and 12 over the whole file; then 9, 10, 11, 13 and 19 to 21 over the whole file.
 pub fn load(file: &[u8], starts: &mut [u16; 2048]) -> Checked
     ensures told { λ r. ⌜ verdictOf r ≡ checkOf (now (file .entry)) ⌝ }
     ensures table { λ r. ⌜ now (starts .exit) ≡ tableBy (verdictOf r) (now (file .entry)) (now (starts .entry)) ⌝ }

@@ -1,5 +1,5 @@
 -- The reading of a translated file (document 01, 'The translated file'): which code its bytes are, or the first refusal. A first reading
--- finds the refusals 15, 1 to 6 and 12; a second one judges names too, and finds 9, 10, 11, 13 and 19 to 21.
+-- finds the refusals 1 to 6, 12 and 15; a second one judges names too, and finds 9, 10, 11, 13 and 19 to 21.
 use Prim.Native.Nat.{ℕ}
 use mathlib.Core.Bool.{Bool, cond}
 use mathlib.Core.List.{List, [], _∷_}

@@ -1,4 +1,4 @@
-// The reading of a file: the refusals 15, 1 to 6 and 12, and where names are judged 9, 10, 11, 13 and 19 to 21.
+// The reading of a file: the refusals 1 to 6, 12 and 15, and where names are judged 9, 10, 11, 13 and 19 to 21.
 use parsing::Count;
 use parsing::Refusal;
 use parsing::Scan;

@@ -1,4 +1,4 @@
--- The translator's answer and output for every input (document 01, 'What is turned down'): the file's own checks, 15 and 1 to 10; then
+-- The translator's answer and output for every input (document 01, 'What is turned down'): the file's own checks, 1 to 10 and 15; then
 -- 17; then 16.
 use Prim.Native.Nat.{ℕ}
 use mathlib.Core.List.{List}
@@ -28,7 +28,7 @@ toldBy (Refused r) = refuses (r .number) (r .place)
 unfoldable pub roomVerdict : (bytes room : ℕ) → Verdict
 roomVerdict bytes room = orElse (refusedUnless (leb bytes fileLimit) translationTooLong 0) (refusedUnless (leb bytes room) noRoom 0)
 
--- The file's own checks, 15 and 1 to 10; then 17; then 16.
+-- The file's own checks, 1 to 10 and 15; then 17; then 16.
 unfoldable pub translateVerdict : List ℕ → ℕ → Verdict
 translateVerdict s room = orElse (checkOf s) (roomVerdict (length (translationOf s)) room)
 
