@@ -1,8 +1,9 @@
--- Reading a file of bytes. Definitions, in reading order: Parser, Refusals, Fields, Bytes.
+-- Reading a file of bytes. Definitions, in reading order: Parser, Refusals, Fields, Bytes; SizeFirst has the order before Slip 5.
 pub mod Parser
 pub mod Refusals
 pub mod Fields
 pub mod Bytes
+pub mod SizeFirst
 -- Laws.
 pub mod ValueLaws
 pub mod ParserLaws
@@ -11,3 +12,4 @@ pub mod BytesAtLaws
 pub mod ReadsLaws
 pub mod BytesLaws
 pub mod RowLaws
+pub mod SizeFirstLaws

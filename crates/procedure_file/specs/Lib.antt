@@ -1,4 +1,4 @@
--- Procedure files. Definitions, in reading order; Asked has what private functions are asked and give.
+-- Procedure files. Definitions, in reading order; Asked has what private functions are asked and give, SizeFirst the check before Slip 5.
 pub mod Check
 pub mod Accepted
 pub mod Places
@@ -6,7 +6,8 @@ pub mod Table
 pub mod Loaded
 pub mod FileInvariant
 pub mod Asked
--- Laws: AcceptedLaws proves Accepted, FileInvariantLaws proves FileInvariant of every accepted file.
+pub mod SizeFirst
+-- Laws: AcceptedLaws proves Accepted, FileInvariantLaws proves FileInvariant of every accepted file, SizeFirstLaws which answers Slip 5 changed.
 pub mod WrittenLaws
 pub mod ReadsBackLaws
 pub mod BytesLaws
@@ -18,3 +19,4 @@ pub mod FileNamesLaws
 pub mod CheckLaws
 pub mod FileInvariantLaws
 pub mod LoadedLaws
+pub mod SizeFirstLaws

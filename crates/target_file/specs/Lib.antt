@@ -1,11 +1,12 @@
--- Translated files. Definitions and statements, in reading order.
+-- Translated files. Definitions and statements, in reading order; SizeFirst has the check before Slip 5.
 pub mod Check
 pub mod Writing
 pub mod Accepted
 pub mod Translated
 pub mod Tables
 pub mod LoadedCode
--- Laws and theorems: AcceptedLaws proves Accepted, TranslatedLaws proves Translated, LoadedCodeLaws and FormLaws give what the controller cites.
+pub mod SizeFirst
+-- Laws and theorems: AcceptedLaws proves Accepted, TranslatedLaws proves Translated, SizeFirstLaws which answers Slip 5 changed, LoadedCodeLaws and FormLaws give what the controller cites.
 pub mod RightLaws
 pub mod ReadLaws
 pub mod FormLaws
@@ -19,3 +20,4 @@ pub mod ReadsBackLaws
 pub mod BytesLaws
 pub mod AcceptedLaws
 pub mod TranslatedLaws
+pub mod SizeFirstLaws
