@@ -1,10 +1,11 @@
 #!/usr/bin/env python3
 """Writes the cases of crates/both_cases and the texts expected: run in the repository's root. Needs both.txt of ../shared/vectors
-and of its folder slip-2, and ../shared/peer/both.c, which it compiles with `cc` in a temporary folder.
+and of its folders slip-2 and slip-5, and ../shared/peer/both.c, which it compiles with `cc` in a temporary folder.
 
 The peer is a program that reads one input of `both` and prints its text, written by other hands than the crates. The text of a vector is the
 one that the vectors give; the text of any other case is the peer's, and where document 01 lays it down it is written here too. Where a text
-given and the peer's differ, the one given is taken, and the difference is told.
+given and the peer's differ, the one given is taken, and the difference is told. The peer tests a file's size first, as it was before Slip 5:
+the text of a file above the limit is made here.
 """
 import os
 import random
@@ -15,7 +16,7 @@ import tempfile
 from collections import Counter
 
 from procedure import T, T_FUNCTIONS, Function, back, branch, call, constant, difference, differs, duplicate, goto, throw, translation, written
-from records import GREATEST, LEAST, header, little, procedure_of, shared, vectors, write
+from records import GREATEST, LEAST, Refused, header, judge_head, little, procedure_of, shared, vectors, write
 
 if shutil.which("cc") is None:
     sys.exit("cc is missing: the peer cannot be compiled")
@@ -29,10 +30,18 @@ def peer_text(data):
     return subprocess.run([peer], input=data, capture_output=True, timeout=10, check=True).stdout.decode()
 
 
+# The text of a file above the limit.
+def long_text(file):
+    try:
+        judge_head(file, b"SPF", 2048)
+    except Refused as r:
+        return f"{r}\n"
+
+
 # An input of `both`, and the text that it is to print where this is laid down.
 def add_input(data, given=None):
     assert len(data) <= 4096
-    text = peer_text(data)
+    text = long_text(procedure_of(data)) if len(procedure_of(data)) > 2048 else peer_text(data)
     if given is not None and given != text:
         differences.append((data.hex(), given, text))
     cases.append((data, text if given is None else given))
@@ -55,9 +64,12 @@ def ended(target, end, bench, controller):
 no_header = "no header\n"
 most = 2 ** 32 - 1
 
-for name in ("both.txt", "slip-2/both.txt"):
+# The vectors from before a request are held to where it changes nothing.
+for name in ("both.txt", "slip-2/both.txt", "slip-5/both.txt"):
     for data, text in vectors(name):
-        add_input(data, text.replace(" | ", "\n") + "\n" if name != "both.txt" or not differs(procedure_of(data)) else None)
+        file = procedure_of(data)
+        changed = name == "both.txt" and differs(file) or name != "slip-5/both.txt" and len(file) > 2048 and long_text(file) != refused(15, 2048)
+        add_input(data, None if changed else text.replace(" | ", "\n") + "\n")
 from_vectors = len(cases)
 
 
@@ -134,11 +146,16 @@ add(written(*filled(2045)) + b"\0\0\0", [], 256, 100, refused(4, 2045))
 add(long[:2046] + b"\6\1", [], 256, 100, refused(7, 2047))
 add(long[:2046] + b"\5\0", [], 256, 100, refused(8, 2047))
 add(long[:2046] + b"\x09\0", [], 256, 100, refused(6, 2046))
-for data in (over, b"X" + over[1:], over[:3] + b"\2" + over[4:], long + b"\0", bytes(2049), bytes(2050), bytes(3000)):
-    add(data, [], 256, 100, refused(15, 2048))
-    add(data, [1], 257, 100, refused(15, 2048))
-add(b"X" + over[1:], [1] * 255, 65535, most, refused(15, 2048))
-add(bytes(4089), [], 256, 100, refused(15, 2048))
+for data, given in (
+        (over, refused(15, 2048)), (b"X" + over[1:], refused(1, 0)), (over[:3] + b"\2" + over[4:], refused(2, 3)), (long + b"\0", refused(15, 2048)),
+        (bytes(2049), refused(1, 0)), (bytes(2050), refused(1, 0)), (bytes(3000), refused(1, 0)), (over[:1] + b"X" + over[2:], refused(1, 1)),
+        (over[:2] + b"X" + over[3:], refused(1, 2)), (over[:4] + b"\1" + over[5:], refused(2, 3)), (b"SPG\2" + over[4:], refused(1, 2))):
+    add(data, [], 256, 100, given)
+    add(data, [1], 257, 100, given)
+add(b"X" + over[1:], [1] * 255, 65535, most, refused(1, 0))
+add(over, [1] * 255, 65535, most, refused(15, 2048))
+add(bytes(4089), [], 256, 100, refused(1, 0))
+add(long + bytes(2041), [], 256, 100, refused(15, 2048))
 
 
 # Three functions of 32 variables; the first goes through all its blocks. The operations before the last return make the length of the
@@ -309,7 +326,7 @@ for _ in range(100):
     arguments = [source.choice(values) for _ in range(shapes[0][0])]
     made.append(add_run(functions, arguments, source.randrange(6), source.randrange(201)))
 
-assert len(cases) < 900
+assert len(cases) < 1100
 # An input too long: the run ends there, and what follows gets no answer.
 inputs = [data for data, _ in cases] + [bytes(4097), header([5], 256, 100) + T]
 write("both_cases", (little(len(data), 2) + data for data in inputs), (text for _, text in cases))

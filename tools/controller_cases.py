@@ -70,6 +70,7 @@ for i, (file, start, arguments) in enumerate(short):
 for number in sorted(wrong, key=int):
     add(wrong[number], [1] * 33, 257, most, 0)
 add(bytes(65536), [], 2, 100)
+add(target().ljust(65536, b"\0"), [], 2, 100)
 
 # The call: words lent, depth, argument count.
 for delta in (0, 127, 128, 129, 255):

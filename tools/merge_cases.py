@@ -87,8 +87,9 @@ for i, file in enumerate(faulty):
     add(file, faulty[i - 1], 20)
     add(crossed(32), file, 20)
     add(file, crossed(32), 0)
-add(bytes(LIMIT + 1), b"", 20)
-add(T, bytes(LIMIT + 1), 20)
+for file in (bytes(LIMIT + 1), T.ljust(LIMIT + 1, b"\0")):
+    add(file, b"", 20)
+    add(T, file, 20)
 add(b"", T, 90)
 add(T, b"", 90)
 

@@ -1,10 +1,11 @@
 #!/usr/bin/env python3
-"""Writes the cases of crates/procedure_cases and the answers expected: run in the repository's root. Needs ../shared/vectors/both.txt.
+"""Writes the cases of crates/procedure_cases and the answers expected: run in the repository's root. Needs both.txt of ../shared/vectors and
+long.txt of its folder slip-5.
 
 The answers come from the checker of tools/procedure.py.
 """
 from procedure import LIMIT, T, branch, call, check, constant, difference, duplicate, goto
-from records import GREATEST, LEAST, Refused, little, vectors, write
+from records import GREATEST, LEAST, Refused, agree, little, long_vectors, vectors, write
 
 
 def answer(kind, f, label, s):
@@ -80,7 +81,10 @@ def damaged():
 
 
 # Each file is checked once; some are looked up in.
-cases = [(0, 0, 0, s) for s in dict.fromkeys([*given(), *damaged()])]
+long = dict(long_vectors("SPF"))
+for s, told in long.items():
+    agree(s[:6].hex(), told, answer(0, 0, 0, s))
+cases = [(0, 0, 0, s) for s in dict.fromkeys([*given(), *damaged(), *long])]
 for s in (T, T[:-1], b"", T[:11] + b"\3" + T[12:]):
     for f in (0, 1, 2, 31, 32, 255):
         for label in (0, 1, 2, 3, 63, 64, 255):

@@ -37,6 +37,14 @@ def vectors(name):
         yield bytes.fromhex(first), *others
 
 
+def long_vectors(kind):
+    """The files of one kind that are given by their first bytes and a length, zero bytes filling them up, each with its answer."""
+    for file, answer in lines("slip-5/long.txt"):
+        mark, first, *_, length = file.split()
+        if mark == kind:
+            yield bytes.fromhex(first).ljust(int(length), b"\0"), answer
+
+
 def little(n, size):
     """A field of so many bytes, the low byte first."""
     return n.to_bytes(size, "little")
@@ -68,6 +76,21 @@ def call_of(text):
     first, depth = words.index("arguments") + 1, words.index("depth")
     start = int(words[1]) if words[0] == "start" else 0
     return start, [int(w) for w in words[first:depth] if w != "-"], int(words[depth + 1]), int(words[depth + 3])
+
+
+def judge_head(s, mark, limit):
+    """The refusals of a file's head: 1, 2, then 15; 3 where the file ends inside its mark or its version."""
+    for i, m in enumerate(mark):
+        if i >= len(s):
+            raise Refused(3, len(s))
+        if s[i] != m:
+            raise Refused(1, i)
+    if len(s) < 5:
+        raise Refused(3, len(s))
+    if s[3] + 256 * s[4] != 1:
+        raise Refused(2, 3)
+    if len(s) > limit:
+        raise Refused(15, limit)
 
 
 def judge_call(start, parameters, given, depth, delta):

@@ -1,13 +1,13 @@
 #!/usr/bin/env python3
 """Writes the cases of crates/target_cases and the answers expected: run in the repository's root. Needs target.txt of
-../shared/vectors and of its folders slip-2 to slip-4.
+../shared/vectors and of its folders slip-2 to slip-4, and long.txt of slip-5.
 
 The answers come from the checker of tools/target.py.
 """
 import random
 from collections import Counter
 
-from records import Refused, constant, difference, duplicate, little, vectors, write
+from records import Refused, agree, constant, difference, duplicate, little, long_vectors, vectors, write
 from target import both, branch, check, continuation, difference_or_raise, function, handle, jump, resume, target
 
 cases = []
@@ -208,6 +208,9 @@ def filled(n):
 for n in (65535, 65536):
     add(filled(n))
     assert len(cases[-1]) == n
+for file, told in long_vectors("SPC"):
+    agree(file[:6].hex(), told, answer(file))
+    add(file)
 
 # Damaged files: one byte of a rich file at a time.
 guarded = both(7, 8, 9, jump(1, 7, 9, [2, 3]), branch(2, 3, jump(0, 0, 1, [4, 5]), raising), resume(0, 8))

@@ -48,6 +48,7 @@ add(b"", 50)
 for file in (T[:-1], T + b"\0", T[:11] + b"\3" + T[12:]):
     add(file, 200)
 add(bytes(LIMIT + 1), 20)
+add(T.ljust(LIMIT + 1, b"\0"), 20)
 
 # One output, of 65,536 bytes, of which each case lends the front.
 out = bytearray(65536)

@@ -13,7 +13,7 @@ fn run_record() -> bool {
         return false;
     }
     let size = triple(head[0], head[1], head[2]);
-    let mut buffer = io::large_buffer();
+    let mut buffer = [0u8; 131072];
     let got = read_part(&mut buffer, size);
     if got < size {
         return false;
