@@ -3,4 +3,5 @@ pub mod Bytes
 pub mod Writes
 -- Laws.
 pub mod WriteLaws
+pub mod LengthLaws
 pub mod JumpLaws

@@ -20,9 +20,10 @@ use Rattle.procedure_layout.specs.After.{afterOf}
 use Rattle.procedure_file.specs.Check.{programOf}
 use Rattle.target_file.specs.Writing.{size, exprBytes}
 use Rattle.translator_bytes.specs.Bytes.{jumpHead, labelJump, callJump, plainCall, guardedCall, branchBytes, raiseBytes, raiseSize, differenceBytes, callBytes, operationBytes, operationSize}
+use Rattle.translator_bytes.specs.LengthLaws.{length-slots, label-size}
 use Rattle.translator_sizes.specs.Parts.{bodyAt, bytesAt}
 use Rattle.translator_sizes.specs.Standing.{OperationStands, CountInTable}
-use Rattle.translator_sizes.specs.SizeLaws.{guarded-test, length-slots, label-size, called-size, branch-size, raise-size, difference-size}
+use Rattle.translator_sizes.specs.SizeLaws.{guarded-test, called-size, branch-size, raise-size, difference-size}
 use lib.ListN.{length-map}
 
 -- What a call's callee and arguments are; no operation is a refusal.

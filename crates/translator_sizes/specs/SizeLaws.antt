@@ -1,35 +1,23 @@
 -- How many bytes each operation becomes.
 use Prim.Native.Nat.{ℕ, zero, suc, _+_, _*_}
 use native.Mathlib.Omega.{arith}
-use mathlib.Core.Path.{_≡_, refl, ap}
+use mathlib.Core.Path.{_≡_, refl}
 use mathlib.Core.List.{List, _++_}
 use mathlib.Core.Bool.{false}
 use borrow.Author.Tests.{eq-eqb, ne-eqb}
 use lib.Dec.{eqb}
-use lib.ListN.{length, length-append, length-map}
+use lib.ListN.{length, length-append}
 use Rattle.parsing.specs.Bytes.{pairBytes}
-use Rattle.semantics.specs.Translation.{slotOf, slotsFrom}
-use Rattle.translator_bytes.specs.Bytes.{jumpHead, labelJump, callJump, plainCall, guardedCall, branchBytes, raiseBytes, differenceBytes, callBytes, callSize, raiseSize, zeros}
+use Rattle.translator_bytes.specs.Bytes.{labelJump, callJump, plainCall, guardedCall, branchBytes, raiseBytes, differenceBytes, callBytes, callSize, raiseSize, zeros}
+use Rattle.translator_bytes.specs.LengthLaws.{label-size, call-size}
 
 -- A handler in force is not 0.
 pub guarded-test : (h : ℕ) → eqb (suc h) 0 ≡ false
 guarded-test h = ne-eqb (suc h) 0 (λ e. omega arith)
 
-pub length-slots : (x n : ℕ) → length (slotsFrom x n) ≡ n
-length-slots x zero = refl
-length-slots x (suc n) = ap suc (length-slots (suc x) n)
-
 pub length-zeros : (x n : ℕ) → length (zeros x n) ≡ 6 * n
 length-zeros x zero = refl
 length-zeros x (suc n) = let a = length-zeros (suc x) n in omega arith
-
-pub label-size : (base v l : ℕ) → length (labelJump base v l) ≡ 6 + v
-unfolding labelJump jumpHead
-label-size base v l = let a = length-slots 2 v in omega arith
-
-pub call-size : (g k h n : ℕ) (ys : List ℕ) → length ys ≡ n → length (callJump g k h n ys) ≡ 6 + n
-unfolding callJump jumpHead
-call-size g k h n ys e = let a = length-map ys slotOf in omega arith
 
 pub plain-size : (v x g n : ℕ) (ys : List ℕ) → length ys ≡ n → length (plainCall v x g n ys) ≡ 5 + (6 + n)
 unfolding plainCall
