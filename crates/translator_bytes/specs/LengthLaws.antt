@@ -5,7 +5,9 @@ use mathlib.Core.Path.{_≡_, refl, ap, _∙_}
 use mathlib.Core.List.{List, _++_, map}
 use lib.ListN.{length, length-map}
 use Rattle.semantics.specs.Translation.{slotOf, slotsFrom}
+use Rattle.procedure_operations.specs.Operation.{argumentsAt}
 use Rattle.translator_bytes.specs.Bytes.{jumpHead, labelJump, callJump}
+use Rattle.translator_bytes.specs.Writes.{Wrote, CallStands}
 
 pub length-slots : (x n : ℕ) → length (slotsFrom x n) ≡ n
 length-slots x zero = refl
@@ -22,3 +24,11 @@ label-size base v l = jump-size (base + l) 0 1 v (slotsFrom 2 v) (length-slots 2
 pub call-size : (g k h n : ℕ) (ys : List ℕ) → length ys ≡ n → length (callJump g k h n ys) ≡ 6 + n
 unfolding callJump
 call-size g k h n ys e = jump-size g k h n (map slotOf ys) (length-map ys slotOf ∙ e)
+
+-- Slip 6: "For each count from 0 to 32 the sum is the number of bytes written." What writes a jump at o promises `Wrote`, where r is the offset past it.
+module _ {o r : ℕ} {d d′ : List ℕ} where
+  pub label-jump-written : (base v l : ℕ) → Wrote o (labelJump base v l) d r d′ → r ≡ o + (6 + v)
+  label-jump-written base v l W = W .next ∙ ap (λ (n : ℕ). o + n) (label-size base v l)
+
+  pub call-jump-written : (s : List ℕ) (at g k h n : ℕ) → CallStands s at n → Wrote o (callJump g k h n (argumentsAt s at n)) d r d′ → r ≡ o + (6 + n)
+  call-jump-written s at g k h n C W = W .next ∙ ap (λ (m : ℕ). o + m) (call-size g k h n (argumentsAt s at n) (C .long))

@@ -12,49 +12,12 @@ ghost use Rattle.procedure_operations.specs.Operation.{argumentsAt};
 ghost use Rattle.translator_bytes.specs.Writes.{Room, Wrote, CallStands};
 ghost use Rattle.translator_bytes.specs.Bytes.{jumpHead, labelJump, callJump, plainCall, guardedCall, branchBytes, raiseBytes, raiseSize, differenceBytes, callBytes};
 
-// The length of a jump with 0 to 32 values.
-const LENGTHS: [usize; 33] = [
-    6,
-    7,
-    8,
-    9,
-    10,
-    11,
-    12,
-    13,
-    14,
-    15,
-    16,
-    17,
-    18,
-    19,
-    20,
-    21,
-    22,
-    23,
-    24,
-    25,
-    26,
-    27,
-    28,
-    29,
-    30,
-    31,
-    32,
-    33,
-    34,
-    35,
-    36,
-    37,
-    38,
-];
-
-// "A jump takes 6 bytes and one per value."
+// The length of a jump: 6 plus the number of values, 0 to 32.
 pub fn jump_size(values: usize) -> usize
     requires { ⌜ values < 33 ⌝ }
     ensures { λ r. ⌜ r ≡ 6 + values ⌝ }
 {
-    LENGTHS[values]
+    6 + values
 }
 
 fn put_jump_head(out: &mut [u8], o: usize, g: usize, k: u8, h: u8, n: u8) -> usize
