@@ -15,7 +15,7 @@ use Rattle.procedure_layout.specs.After.{afterOf}
 use Rattle.procedure_file.specs.Check.{programOf}
 use Rattle.translator_bytes.specs.Bytes.{operationBytes, operationSize}
 use Rattle.translator_sizes.specs.Parts.{bytesAt}
-use Rattle.translator_sizes.specs.Standing.{OperationStands, CountInTable, BlockSize}
+use Rattle.translator_sizes.specs.Standing.{OperationStands, CountInRange, BlockSize}
 use Rattle.translator_sizes.specs.OperationLaws.{Fine, variables-bound, within, fine, of-bound, operation-size, following, split-at}
 
 -- An operation does not end the block: the next one stands where it leads.
@@ -46,8 +46,8 @@ pub count-none : {s : List ℕ} {v h start : ℕ} → OperationStands s v start 
 count-none {s} {v} {h} {start} H = record { here = H; is = λ base. omega arith; sizeBound = omega arith }
 
 module _ {s : List ℕ} {v h start at n : ℕ} (T : Counting s v h start at n) {x : Operation} (e : x ≡ operationAt s at) where
-  pub count-asks : (v ≤ 32) × CountInTable x
-  count-asks = (variables-bound (T .here), subst CountInTable (sym e) (of-bound s at (operationAt s at) (fine (T .here))))
+  pub count-asks : (v ≤ 32) × CountInRange x
+  count-asks = (variables-bound (T .here), subst CountInRange (sym e) (of-bound s at (operationAt s at) (fine (T .here))))
 
   pub count-bound : n ≤ 4194304
   count-bound =

@@ -22,7 +22,7 @@ use Rattle.target_file.specs.Writing.{size, exprBytes}
 use Rattle.translator_bytes.specs.Bytes.{jumpHead, labelJump, callJump, plainCall, guardedCall, branchBytes, raiseBytes, raiseSize, differenceBytes, callBytes, operationBytes, operationSize}
 use Rattle.translator_bytes.specs.LengthLaws.{length-slots, label-size}
 use Rattle.translator_sizes.specs.Parts.{bodyAt, bytesAt}
-use Rattle.translator_sizes.specs.Standing.{OperationStands, CountInTable}
+use Rattle.translator_sizes.specs.Standing.{OperationStands, CountInRange}
 use Rattle.translator_sizes.specs.SizeLaws.{guarded-test, called-size, branch-size, raise-size, difference-size}
 use lib.ListN.{length-map}
 
@@ -77,7 +77,7 @@ module _ {s : List ℕ} {v at : ℕ} (H : OperationStands s v at) where
       go (Raise next) q f = tt
       go (Refused r) q f = H .invariant .operation (H .function) at r (H .stands) q
 
-pub of-bound : (s : List ℕ) (at : ℕ) (o : Operation) → Fine s at o → CountInTable o
+pub of-bound : (s : List ℕ) (at : ℕ) (o : Operation) → Fine s at o → CountInRange o
 of-bound s at (Constant x i next) f = tt
 of-bound s at (Copy x y next) f = tt
 of-bound s at (Difference x y z next) f = tt

@@ -18,17 +18,17 @@ pub record OperationStands (s : List ℕ) (v at : ℕ) : Type 0 where
   pub stands : Stands s function at
   pub vars : v ≡ variables (functionOf (programOf s) function)
 
--- The argument count of a call is one of the constant table's.
-abbrev pub CountInTable : Operation → Type 0
-CountInTable (Constant x i next) = Unit {0}
-CountInTable (Copy x y next) = Unit {0}
-CountInTable (Difference x y z next) = Unit {0}
-CountInTable (Call x g n next) = n ≤ maxVariables
-CountInTable (Goto l next) = Unit {0}
-CountInTable (Return x next) = Unit {0}
-CountInTable (Branch y z l m next) = Unit {0}
-CountInTable (Raise next) = Unit {0}
-CountInTable (Refused r) = Unit {0}
+-- The argument count of a call is one that a jump can have, 0 to 32.
+abbrev pub CountInRange : Operation → Type 0
+CountInRange (Constant x i next) = Unit {0}
+CountInRange (Copy x y next) = Unit {0}
+CountInRange (Difference x y z next) = Unit {0}
+CountInRange (Call x g n next) = n ≤ maxVariables
+CountInRange (Goto l next) = Unit {0}
+CountInRange (Return x next) = Unit {0}
+CountInRange (Branch y z l m next) = Unit {0}
+CountInRange (Raise next) = Unit {0}
+CountInRange (Refused r) = Unit {0}
 
 -- The size of a block's body, whatever number its function has.
 pub record BlockSize (s : List ℕ) (v h at r : ℕ) : Type 0 where

@@ -15,7 +15,7 @@ ghost use Rattle.procedure_file.specs.Check.{programOf};
 ghost use Rattle.semantics.specs.Program.{functionOf};
 ghost use Rattle.translator_bytes.specs.Bytes.{raiseSize, callSize, operationSize};
 ghost use Rattle.translator_sizes.specs.Parts.{fieldsOf, functionBytes};
-ghost use Rattle.translator_sizes.specs.Standing.{OperationStands, CountInTable, BlockSize, LabelSize};
+ghost use Rattle.translator_sizes.specs.Standing.{OperationStands, CountInRange, BlockSize, LabelSize};
 
 fn call_size(v: u8, h: u8, n: u8) -> usize
     requires { ⌜ (v ≤ maxVariables) × (n ≤ maxVariables) ⌝ }
@@ -54,7 +54,7 @@ fn goto_size(v: u8) -> usize
 
 // How many bytes an operation becomes, without the rest of its block.
 fn operation_size(v: u8, h: u8, x: Operation) -> usize
-    requires { ⌜ (v ≤ maxVariables) × CountInTable x ⌝ }
+    requires { ⌜ (v ≤ maxVariables) × CountInRange x ⌝ }
     ensures { λ r. ⌜ (r ≡ operationSize v h x) × (r ≤ 128) ⌝ }
 {
     match x {

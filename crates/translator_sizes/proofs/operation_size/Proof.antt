@@ -1,6 +1,6 @@
 -- `translator_sizes::operation_size` meets its contract.
 use Rattle.translator_bytes.specs.Bytes.{operationSize}
-use Rattle.translator_sizes.specs.Standing.{CountInTable}
+use Rattle.translator_sizes.specs.Standing.{CountInRange}
 use native.Mathlib.Omega.{arith}
 use mathlib.Core.Path.{sym, ap, _∙_, subst}
 use borrow.Author.Needs.{needs}
@@ -25,7 +25,7 @@ enum-known-x c = search needs
 call-size-requires : tie.Need-call-size-requires
 call-size-requires c κs =
     let entry = c .before .before .before in
-    (entry .pre .0, subst CountInTable (c .before .x .given .1) (entry .pre .1))
+    (entry .pre .0, subst CountInRange (c .before .x .given .1) (entry .pre .1))
 
 enum-told-4 : tie.Need-enum-told-4
 enum-told-4 c = search needs
