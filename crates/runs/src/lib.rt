@@ -3,10 +3,10 @@ ghost use mathlib.Core.Path.{_≡_};
 ghost use Rattle.semantics.specs.Run.{oneMoreIfDeep};
 ghost use Rattle.runs.specs.Stopped.{stoppedAs, inUse};
 
-// How a run ends.
+// How a run ends: with a value, or uncaught with the number raised.
 pub enum End {
     Value(i32),
-    Uncaught,
+    Uncaught(i32),
 }
 
 // How a run stopped.

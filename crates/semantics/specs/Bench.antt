@@ -1,4 +1,5 @@
--- Figure 2: the bench machine, as document 01 states it ('How the bench moves'), and document 02 (Slip 2) for a difference out of range.
+-- Figure 2: the bench machine, as document 01 states it ('How the bench moves'), and document 02: Slip 2 for a difference out of range, Slip 7 for the
+-- number that a raise carries.
 -- The figure's two stacks F and E are one list here, newest frame first: a frame keeps its caller's handler, and the frames that have one are E.
 use Prim.Native.Nat.{ℕ, zero, suc}
 use mathlib.Core.Bool.{cond}
@@ -44,6 +45,11 @@ abbrev pub labelledAt : List Labelled → Label → Option Labelled
 labelledAt bs zero = none
 labelledAt bs (suc l) = getElem? bs l
 
+-- The variables with the number raised in the receiving variable, if there is one.
+abbrev pub received : Option Variable → ℤ → List ℤ → List ℤ
+received none n vs = vs
+received (some x) n vs = set vs x n
+
 -- Entry to a labelled block: its own handler (or none) takes over.
 abbrev pub enter : Program → FunctionNumber → Label → List ℤ → List Frame → Outcome State
 enter P f l vs fs = given (labelledAt (functionOf P f .blocks) l) (λ B. next (state f (B .handler) (B .block) vs fs))
@@ -53,17 +59,27 @@ abbrev pub returned : ℤ → List Frame → Outcome State
 returned z [] = end (value z)
 returned z (frame f h b vs x ∷ fs) = next (state f h b (set vs x z) fs)
 
+-- Entry to a labelled block by a raise of n: its receiving variable is "set only when the block is entered by a raise".
+abbrev pub enterByRaise : Program → FunctionNumber → Label → ℤ → List ℤ → List Frame → Outcome State
+enterByRaise P f l n vs fs =
+    given (labelledAt (functionOf P f .blocks) l) (λ B. next (state f (B .handler) (B .block) (received (B .receiver) n vs) fs))
+
 -- Raise without a handler drops frames down to and including the newest that had a handler, and goes on at that label with the
--- variables kept at the call. If none had, the run ends uncaught.
-abbrev pub unwound : Program → List Frame → Outcome State
-unwound P [] = end uncaught
-unwound P (frame f zero b vs x ∷ fs) = unwound P fs
-unwound P (frame f (suc l) b vs x ∷ fs) = enter P f (suc l) vs fs
+-- variables kept at the call. If none had, the run ends uncaught, and reports the number.
+abbrev pub unwound : Program → ℤ → List Frame → Outcome State
+unwound P n [] = end (uncaught n)
+unwound P n (frame f zero b vs x ∷ fs) = unwound P n fs
+unwound P n (frame f (suc l) b vs x ∷ fs) = enterByRaise P f (suc l) n vs fs
 
 -- Raise under a handler goes to that label with the variables of now.
-abbrev pub raised : Program → FunctionNumber → Handler → List ℤ → List Frame → Outcome State
-raised P f zero vs fs = unwound P fs
-raised P f (suc l) vs fs = enter P f (suc l) vs fs
+abbrev pub raised : Program → FunctionNumber → Handler → ℤ → List ℤ → List Frame → Outcome State
+raised P f zero n vs fs = unwound P n fs
+raised P f (suc l) n vs fs = enterByRaise P f (suc l) n vs fs
+
+-- The number that operation 8 or 9 raises: 0, or the variable's value.
+abbrev pub numberOf : List ℤ → Option Variable → Option ℤ
+numberOf vs none = some (pos 0)
+numberOf vs (some y) = getElem? vs y
 
 -- A function begins at its entry block without a handler, with its arguments and its locals 0.
 abbrev pub begun : FunctionNumber → Function → List ℤ → List Frame → State
@@ -74,13 +90,13 @@ abbrev pub within : {S : Type 0} → ℕ → ℕ → Outcome S → Outcome S
 within d n o = cond (leb d n) tooDeep o
 
 -- One step of the bench, under the depth limit d. Each operation is one step. "An out-of-range difference raises, in place, and its target keeps
--- its value."
+-- its value." It raises 0, as operation 8 does.
 unfoldable pub step : Program → ℕ → State → Outcome State
 step P d (state f h (constant x i b) vs fs) = next (state f h b (set vs x i) fs)
 step P d (state f h (copy x y b) vs fs) = given (getElem? vs y) (λ v. next (state f h b (set vs x v) fs))
 step P d (state f h (difference x y z b) vs fs) =
     given (getElem? vs y) (λ v. given (getElem? vs z) (λ w.
-    cond (inRange (v -ℤ w)) (next (state f h b (set vs x (v -ℤ w)) fs)) (raised P f h vs fs)))
+    cond (inRange (v -ℤ w)) (next (state f h b (set vs x (v -ℤ w)) fs)) (raised P f h (pos 0) vs fs)))
 step P d (state f h (call x g ys b) vs fs) =
     within d (length fs)
     (given (getElem? P g) (λ G. given (valuesOf vs ys) (λ args. next (begun g G args (frame f h b vs x ∷ fs)))))
@@ -88,7 +104,7 @@ step P d (state f h (goto l) vs fs) = enter P f l vs fs
 step P d (state f h (return x) vs fs) = given (getElem? vs x) (λ v. returned v fs)
 step P d (state f h (branch y z l m) vs fs) =
     given (getElem? vs y) (λ v. given (getElem? vs z) (λ w. enter P f (cond (atMost v w) l m) vs fs))
-step P d (state f h raise vs fs) = raised P f h vs fs
+step P d (state f h (raise r) vs fs) = given (numberOf vs r) (λ n. raised P f h n vs fs)
 
 -- The run of the bench from function f (main is 0), under the depth limit d.
 unfoldable pub bench : Program → FunctionNumber → List ℤ → ℕ → ℕ → Result State

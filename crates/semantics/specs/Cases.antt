@@ -8,6 +8,7 @@ use lib.IntN.{ℤ, pos, negsuc, _-ℤ_}
 use lib.ListN.{drop}
 use Rattle.semantics.specs.Value.{wrapped, minus, least, greatest, inRange, atMost}
 use Rattle.semantics.specs.Program.{FunctionNumber, Handler, Block, difference, raise, Program}
+use mathlib.Core.Option.{none}
 use Rattle.semantics.specs.Run.{next}
 use Rattle.semantics.specs.Bench.{Frame, state, step}
 use Rattle.semantics.specs.WellFormed.{All}
@@ -38,7 +39,7 @@ Holds (fits y z v) =
     → controlStep Q d (control (letDifferenceOrRaise 2 0 1 r e) (slots y z x) rs) ≡ next (control e (slots y z v) rs))
 Holds (misfits y z) =
     ((P : Program) (d : ℕ) (f : FunctionNumber) (h : Handler) (b : Block) (x : ℤ) (fs : List Frame)
-    → step P d (state f h (difference 2 0 1 b) (values y z x) fs) ≡ step P d (state f h raise (values y z x) fs))
+    → step P d (state f h (difference 2 0 1 b) (values y z x) fs) ≡ step P d (state f h (raise none) (values y z x) fs))
     × ((Q : Code) (d : ℕ) (r e : Expr) (x : ℤ) (rs : List Record)
     → controlStep Q d (control (letDifferenceOrRaise 2 0 1 r e) (slots y z x) rs) ≡ next (control r (slots y z x) rs))
 Holds (compares y z b) = atMost y z ≡ b

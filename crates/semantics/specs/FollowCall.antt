@@ -18,7 +18,7 @@ use Rattle.semantics.specs.Code.{Slot, Expr, jump, Target}
 use Rattle.semantics.specs.Controller.{unbound, whole, continuation, handler, Environment, bindingAt, put, bind, asContinuation, asHandler, wholesOf, Record, closure, control, parameters, controlStep}
 use Rattle.semantics.specs.Translation.{slotOf, code, bindZeros, entryTarget, number}
 use Rattle.semantics.specs.Extras.{valueOf}
-use Rattle.semantics.specs.Matching.{newestGuarded, bodyLeft, handlerBody}
+use Rattle.semantics.specs.Matching.{newestGuarded, bodyLeft, handlerBody, handlerParameter}
 use Rattle.semantics.specs.ListLaws.{at-getD, put-same, put-other, put-end, map-append-one}
 use Rattle.semantics.specs.TranslationLaws.{entry-at}
 use Rattle.semantics.specs.MatchingLaws.{slotsOf, recordsOf, matching, length-records, matching-matches}
@@ -126,21 +126,21 @@ module _ (P : Program) (W : WellFormed P) (d : ℕ) (f : FunctionNumber) (x : Va
   calls : (h : Handler) → WellFormedPlace P f h (call x g ys b) vs → All (λ y. y < length vs) ys → leb d (length fs) ≡ false → Calls h
   unfolding code controlStep callee Calls made-slots guarded-slots
   calls zero w ws e = (
-    control (jump (number P g) (slotOf (variables (functionOf P f))) 1 (map slotOf ys)) (made-slots (w .variables) (suc (length (recordsOf P fs)))) (closure (slotsOf vs fs) (slotOf x) (bodyLeft P f 0 b) none ∷ recordsOf P fs),
-    ap (λ (c : Bool). cond c tooDeep (next (control (jump (number P g) (slotOf (variables (functionOf P f))) 1 (map slotOf ys)) (made-slots (w .variables) (suc (length (recordsOf P fs)))) (closure (slotsOf vs fs) (slotOf x) (bodyLeft P f 0 b) none ∷ recordsOf P fs)))) (counts e),
-    subst (λ (k : ℕ). ControlGoes P d (suc (functionOf P g .locals)) (control (jump (number P g) (slotOf (variables (functionOf P f))) 1 (map slotOf ys)) (made-slots (w .variables) (suc (length (recordsOf P fs)))) (closure (slotsOf vs fs) (slotOf x) (bodyLeft P f 0 b) none ∷ recordsOf P fs))
-        (control (bodyLeft P g 0 (functionOf P g .entry)) (parameters k (newestGuarded fs) (map (valueOf vs) ys ++ replicate (functionOf P g .locals) (pos 0))) (closure (slotsOf vs fs) (slotOf x) (bodyLeft P f 0 b) none ∷ recordsOf P fs)))
+    control (jump (number P g) (slotOf (variables (functionOf P f))) 1 (map slotOf ys)) (made-slots (w .variables) (suc (length (recordsOf P fs)))) (closure (slotsOf vs fs) (slotOf x) (bodyLeft P f 0 b) none none ∷ recordsOf P fs),
+    ap (λ (c : Bool). cond c tooDeep (next (control (jump (number P g) (slotOf (variables (functionOf P f))) 1 (map slotOf ys)) (made-slots (w .variables) (suc (length (recordsOf P fs)))) (closure (slotsOf vs fs) (slotOf x) (bodyLeft P f 0 b) none none ∷ recordsOf P fs)))) (counts e),
+    subst (λ (k : ℕ). ControlGoes P d (suc (functionOf P g .locals)) (control (jump (number P g) (slotOf (variables (functionOf P f))) 1 (map slotOf ys)) (made-slots (w .variables) (suc (length (recordsOf P fs)))) (closure (slotsOf vs fs) (slotOf x) (bodyLeft P f 0 b) none none ∷ recordsOf P fs))
+        (control (bodyLeft P g 0 (functionOf P g .entry)) (parameters k (newestGuarded fs) (map (valueOf vs) ys ++ replicate (functionOf P g .locals) (pos 0))) (closure (slotsOf vs fs) (slotOf x) (bodyLeft P f 0 b) none none ∷ recordsOf P fs)))
         (ap suc (length-records P fs))
-        (jumps-to P d g (slotOf (variables (functionOf P f))) 1 ys vs (made-slots (w .variables) (suc (length (recordsOf P fs)))) (closure (slotsOf vs fs) (slotOf x) (bodyLeft P f 0 b) none ∷ recordsOf P fs) (suc (length (recordsOf P fs))) (newestGuarded fs)
+        (jumps-to P d g (slotOf (variables (functionOf P f))) 1 ys vs (made-slots (w .variables) (suc (length (recordsOf P fs)))) (closure (slotsOf vs fs) (slotOf x) (bodyLeft P f 0 b) none none ∷ recordsOf P fs) (suc (length (recordsOf P fs))) (newestGuarded fs)
         (w .block .1) (made-continuation (w .variables) (suc (length (recordsOf P fs)))) refl (made-variable (w .variables) (suc (length (recordsOf P fs)))) ws (w .block .2)),
   )
   calls (suc l) w ws e = (
-    control (jump (number P g) (slotOf (variables (functionOf P f))) (slotOf (suc (variables (functionOf P f)))) (map slotOf ys)) (guarded-slots (w .variables) (suc (length (recordsOf P fs)))) (closure (slotsOf vs fs) (slotOf x) (bodyLeft P f (suc l) b) (handlerBody P f (suc l)) ∷ recordsOf P fs),
-    ap (λ (c : Bool). cond c tooDeep (next (control (jump (number P g) (slotOf (variables (functionOf P f))) (slotOf (suc (variables (functionOf P f)))) (map slotOf ys)) (guarded-slots (w .variables) (suc (length (recordsOf P fs)))) (closure (slotsOf vs fs) (slotOf x) (bodyLeft P f (suc l) b) (handlerBody P f (suc l)) ∷ recordsOf P fs)))) (counts e),
-    subst (λ (k : ℕ). ControlGoes P d (suc (functionOf P g .locals)) (control (jump (number P g) (slotOf (variables (functionOf P f))) (slotOf (suc (variables (functionOf P f)))) (map slotOf ys)) (guarded-slots (w .variables) (suc (length (recordsOf P fs)))) (closure (slotsOf vs fs) (slotOf x) (bodyLeft P f (suc l) b) (handlerBody P f (suc l)) ∷ recordsOf P fs))
-        (control (bodyLeft P g 0 (functionOf P g .entry)) (parameters k k (map (valueOf vs) ys ++ replicate (functionOf P g .locals) (pos 0))) (closure (slotsOf vs fs) (slotOf x) (bodyLeft P f (suc l) b) (handlerBody P f (suc l)) ∷ recordsOf P fs)))
+    control (jump (number P g) (slotOf (variables (functionOf P f))) (slotOf (suc (variables (functionOf P f)))) (map slotOf ys)) (guarded-slots (w .variables) (suc (length (recordsOf P fs)))) (closure (slotsOf vs fs) (slotOf x) (bodyLeft P f (suc l) b) (handlerBody P f (suc l)) (handlerParameter P f (suc l)) ∷ recordsOf P fs),
+    ap (λ (c : Bool). cond c tooDeep (next (control (jump (number P g) (slotOf (variables (functionOf P f))) (slotOf (suc (variables (functionOf P f)))) (map slotOf ys)) (guarded-slots (w .variables) (suc (length (recordsOf P fs)))) (closure (slotsOf vs fs) (slotOf x) (bodyLeft P f (suc l) b) (handlerBody P f (suc l)) (handlerParameter P f (suc l)) ∷ recordsOf P fs)))) (counts e),
+    subst (λ (k : ℕ). ControlGoes P d (suc (functionOf P g .locals)) (control (jump (number P g) (slotOf (variables (functionOf P f))) (slotOf (suc (variables (functionOf P f)))) (map slotOf ys)) (guarded-slots (w .variables) (suc (length (recordsOf P fs)))) (closure (slotsOf vs fs) (slotOf x) (bodyLeft P f (suc l) b) (handlerBody P f (suc l)) (handlerParameter P f (suc l)) ∷ recordsOf P fs))
+        (control (bodyLeft P g 0 (functionOf P g .entry)) (parameters k k (map (valueOf vs) ys ++ replicate (functionOf P g .locals) (pos 0))) (closure (slotsOf vs fs) (slotOf x) (bodyLeft P f (suc l) b) (handlerBody P f (suc l)) (handlerParameter P f (suc l)) ∷ recordsOf P fs)))
         (ap suc (length-records P fs))
-        (jumps-to P d g (slotOf (variables (functionOf P f))) (slotOf (suc (variables (functionOf P f)))) ys vs (guarded-slots (w .variables) (suc (length (recordsOf P fs)))) (closure (slotsOf vs fs) (slotOf x) (bodyLeft P f (suc l) b) (handlerBody P f (suc l)) ∷ recordsOf P fs) (suc (length (recordsOf P fs))) (suc (length (recordsOf P fs)))
+        (jumps-to P d g (slotOf (variables (functionOf P f))) (slotOf (suc (variables (functionOf P f)))) ys vs (guarded-slots (w .variables) (suc (length (recordsOf P fs)))) (closure (slotsOf vs fs) (slotOf x) (bodyLeft P f (suc l) b) (handlerBody P f (suc l)) (handlerParameter P f (suc l)) ∷ recordsOf P fs) (suc (length (recordsOf P fs))) (suc (length (recordsOf P fs)))
         (w .block .1) (guarded-continuation (w .variables) (suc (length (recordsOf P fs)))) (guarded-handler (w .variables) (suc (length (recordsOf P fs)))) (guarded-variable (w .variables) (suc (length (recordsOf P fs)))) ws (w .block .2)),
   )
 
@@ -199,7 +199,7 @@ follow P W d (state f h (call x g ys b) vs fs) w = follow-call P W d f x g ys b 
 follow P W d (state f h (goto l) vs fs) w = follow-goto P W d f vs fs h l (w .0) (w .1)
 follow P W d (state f h (return x) vs fs) w = follow-return P d f h x vs fs (w .0) (w .1)
 follow P W d (state f h (branch y z l m) vs fs) w = follow-branch P W d f vs fs h y z l m (w .0) (w .1)
-follow P W d (state f h raise vs fs) w = follow-raise P W d f h vs fs (w .0) (w .1)
+follow P W d (state f h (raise r) vs fs) w = follow-raise P W d f vs fs h r (w .0) (w .1)
 
 -- Theorem 1 for one step, as the machines cite it.
 pub step-wellFormed : (P : Program) → WellFormed P → (d : ℕ) (S S′ : State) → WellFormedState P S → step P d S ≡ next S′

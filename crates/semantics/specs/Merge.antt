@@ -19,14 +19,14 @@ renumberedBlock n (call x g ys b) = call x (n + g) ys (renumberedBlock n b)
 renumberedBlock n (goto l) = goto l
 renumberedBlock n (return x) = return x
 renumberedBlock n (branch y z l m) = branch y z l m
-renumberedBlock n raise = raise
+renumberedBlock n (raise r) = raise r
 
 abbrev pub renumberedLabelled : ℕ → Labelled → Labelled
-renumberedLabelled n B = record { handler = B .handler; block = renumberedBlock n (B .block) }
+renumberedLabelled n B = record { handler = B .handler; receiver = B .receiver; block = renumberedBlock n (B .block) }
 
 abbrev pub renumberedFunction : ℕ → Function → Function
 renumberedFunction n F =
-    record { params = F .params; locals = F .locals; entry = renumberedBlock n (F .entry); blocks = map (renumberedLabelled n) (F .blocks) }
+    record { version = F .version; params = F .params; locals = F .locals; entry = renumberedBlock n (F .entry); blocks = map (renumberedLabelled n) (F .blocks) }
 
 -- "the first's functions keep their numbers": the second's follow them.
 unfoldable pub merged : Program → Program → Program

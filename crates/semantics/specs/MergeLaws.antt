@@ -6,15 +6,16 @@ use mathlib.Core.Bool.{Bool, true, false, cond}
 use mathlib.Core.List.{List, [], _∷_, map}
 use mathlib.Core.Option.{Option, none, some, Option·map}
 use lib.Dec.{leb}
-use lib.IntN.{ℤ, _-ℤ_}
+use lib.IntN.{ℤ, pos, _-ℤ_}
 use lib.ListN.{length, getElem?, length-append, length-map, List·getD-append, List·getD-map}
 use lib.Seq.{getD-append-add}
 use Rattle.semantics.specs.Value.{inRange, atMost}
 use Rattle.semantics.specs.Program.{FunctionNumber, Variable, Label, Handler, Block, constant, copy, difference, call, goto, return, branch, raise, Labelled, Function, Program, variables, noFunction, functionOf}
 use Rattle.semantics.specs.Run.{Outcome, next, tooDeep, run, total}
-use Rattle.semantics.specs.Bench.{Frame, frame, State, state, given, valuesOf, labelledAt, enter, returned, unwound, raised, begun, step, bench}
+use Rattle.semantics.specs.Bench.{Frame, frame, State, state, given, valuesOf, labelledAt, enter, returned, received, enterByRaise, unwound, raised, numberOf, begun, step, bench}
 use Rattle.semantics.specs.WellFormed.{All, WellFormedBlock, WellFormedLabelled, WellFormedFunction, WellFormed, WellFormedFrame, WellFormedState}
-use Rattle.semantics.specs.Extras.{caught, caughtOutside, valueOf, extra, extras}
+use Rattle.semantics.specs.Extras.{caught, caughtOutside, one, bindings, raiseExtra, valueOf, extra, extras}
+use Rattle.semantics.specs.Translation.{spareSlot, receiverIn}
 use Rattle.semantics.specs.Merge.{renumberedBlock, renumberedLabelled, renumberedFunction, merged, RunsAlike, MergedRunsAlike}
 use Rattle.semantics.specs.ListLaws.{at-getD, at-below, at-append-left, at-append-right, at-map-any, all-every, all-append, all-mapped, map-same}
 use Rattle.semantics.specs.RunLaws.{mapOutcome, Alike, run-alike}
@@ -47,15 +48,15 @@ zero-block (call x g ys b) = λ i. call x (zero-add g i) ys (zero-block b i)
 zero-block (goto l) = refl
 zero-block (return x) = refl
 zero-block (branch y z l m) = refl
-zero-block raise = refl
+zero-block (raise r) = refl
 
 zero-function : (F : Function) → renumberedFunction 0 F ≡ F
 zero-function F =
     let bs : map (renumberedLabelled 0) (F .blocks) ≡ F .blocks = map-same (renumberedLabelled 0) labelled (F .blocks) in
-    λ i. record { params = F .params; locals = F .locals; entry = zero-block (F .entry) i; blocks = bs i }
+    λ i. record { version = F .version; params = F .params; locals = F .locals; entry = zero-block (F .entry) i; blocks = bs i }
   where
     labelled : (B : Labelled) → renumberedLabelled 0 B ≡ B
-    labelled B = λ i. record { handler = B .handler; block = zero-block (B .block) i }
+    labelled B = λ i. record { handler = B .handler; receiver = B .receiver; block = zero-block (B .block) i }
 
 -- ── A program that stands renumbered in another ─────────────────────────────────────────────────
 
@@ -100,26 +101,37 @@ module _ (k : ℕ) (P R : Program) where
   abbrev calledWith : Program → FunctionNumber → Option (List ℤ) → List Frame → Outcome State
   calledWith N g zs fs = given (getElem? N g) (λ G. given zs (λ args. next (begun g G args fs)))
 
+  label-stands : (f : FunctionNumber) → Stands k P R f → (l : Label)
+      → labelledAt (functionOf R (k + f) .blocks) l ≡ Option·map (renumberedLabelled k) (labelledAt (functionOf P f .blocks) l)
+  label-stands f S zero = refl
+  label-stands f S (suc l) = ap (λ (F : Function). getElem? (F .blocks) l) (S .function) ∙ at-map-any (renumberedLabelled k) (functionOf P f .blocks) l
+
+  -- Entry to a labelled block, with the variables that it gives.
+  enters-with : (f : FunctionNumber) → Stands k P R f → (l : Label) (vs : Option Variable → List ℤ) (fs : List Frame)
+      → given (labelledAt (functionOf R (k + f) .blocks) l) (λ B. next (state (k + f) (B .handler) (B .block) (vs (B .receiver)) (map (renumberedFrame k) fs)))
+      ≡ mapOutcome h (given (labelledAt (functionOf P f .blocks) l) (λ B. next (state f (B .handler) (B .block) (vs (B .receiver)) fs)))
+  enters-with f S l vs fs =
+      let rule : Labelled → Outcome State = λ B. next (state (k + f) (B .handler) (B .block) (vs (B .receiver)) (map (renumberedFrame k) fs)) in
+      let o : Option Labelled = labelledAt (functionOf P f .blocks) l in
+      ap (λ (u : Option Labelled). given u rule) (label-stands f S l) ∙ (given-map (renumberedLabelled k) o rule ∙ given-same h o _ _ (λ B. refl))
+
   enters : (f : FunctionNumber) → Stands k P R f → (l : Label) (vs : List ℤ) (fs : List Frame)
       → enter R (k + f) l vs (map (renumberedFrame k) fs) ≡ mapOutcome h (enter P f l vs fs)
-  enters f S l vs fs =
-      let rule : Labelled → Outcome State = λ B. next (state (k + f) (B .handler) (B .block) vs (map (renumberedFrame k) fs)) in
-      let o : Option Labelled = labelledAt (functionOf P f .blocks) l in
-      ap (λ (u : Option Labelled). given u rule) (at l) ∙ (given-map (renumberedLabelled k) o rule ∙ given-same h o _ _ (λ B. refl))
-    where
-      at : (l : Label) → labelledAt (functionOf R (k + f) .blocks) l ≡ Option·map (renumberedLabelled k) (labelledAt (functionOf P f .blocks) l)
-      at zero = refl
-      at (suc l) = ap (λ (F : Function). getElem? (F .blocks) l) (S .function) ∙ at-map-any (renumberedLabelled k) (functionOf P f .blocks) l
+  enters f S l vs fs = enters-with f S l (λ q. vs) fs
 
-  unwinds : (fs : List Frame) → All (Stands k P R) (map functionIn fs) → unwound R (map (renumberedFrame k) fs) ≡ mapOutcome h (unwound P fs)
-  unwinds [] S = refl
-  unwinds (frame f zero b vs x ∷ fs) S = unwinds fs (S .1)
-  unwinds (frame f (suc l) b vs x ∷ fs) S = enters f (S .0) (suc l) vs fs
+  enters-by-raise : (f : FunctionNumber) → Stands k P R f → (l : Label) (n : ℤ) (vs : List ℤ) (fs : List Frame)
+      → enterByRaise R (k + f) l n vs (map (renumberedFrame k) fs) ≡ mapOutcome h (enterByRaise P f l n vs fs)
+  enters-by-raise f S l n vs fs = enters-with f S l (λ q. received q n vs) fs
 
-  raises : (f : FunctionNumber) (i : Handler) (b : Block) (vs : List ℤ) (fs : List Frame) → LookedUp f b fs
-      → raised R (k + f) i vs (map (renumberedFrame k) fs) ≡ mapOutcome h (raised P f i vs fs)
-  raises f zero b vs fs S = unwinds fs (S .frames)
-  raises f (suc l) b vs fs S = enters f (S .running) (suc l) vs fs
+  unwinds : (n : ℤ) (fs : List Frame) → All (Stands k P R) (map functionIn fs) → unwound R n (map (renumberedFrame k) fs) ≡ mapOutcome h (unwound P n fs)
+  unwinds n [] S = refl
+  unwinds n (frame f zero b vs x ∷ fs) S = unwinds n fs (S .1)
+  unwinds n (frame f (suc l) b vs x ∷ fs) S = enters-by-raise f (S .0) (suc l) n vs fs
+
+  raises : (f : FunctionNumber) (i : Handler) (n : ℤ) (b : Block) (vs : List ℤ) (fs : List Frame) → LookedUp f b fs
+      → raised R (k + f) i n vs (map (renumberedFrame k) fs) ≡ mapOutcome h (raised P f i n vs fs)
+  raises f zero n b vs fs S = unwinds n fs (S .frames)
+  raises f (suc l) n b vs fs S = enters-by-raise f (S .running) (suc l) n vs fs
 
   returns : (z : ℤ) (fs : List Frame) → returned z (map (renumberedFrame k) fs) ≡ mapOutcome h (returned z fs)
   returns z [] = refl
@@ -139,7 +151,7 @@ module _ (k : ℕ) (P R : Program) where
   steps d (state f i (copy x y b) vs fs) S = given-same h (getElem? vs y) _ _ (λ v. refl)
   steps d (state f i (difference x y z b) vs fs) S =
       given-same h (getElem? vs y) _ _ (λ v. given-same h (getElem? vs z) _ _ (λ w.
-      cond-mapped h (inRange (v -ℤ w)) _ _ _ _ refl (raises f i (difference x y z b) vs fs S)))
+      cond-mapped h (inRange (v -ℤ w)) _ _ _ _ refl (raises f i (pos 0) (difference x y z b) vs fs S)))
   steps d (state f i (call x g ys b) vs fs) S =
       rw (length-map fs (renumberedFrame k))
       (cond-mapped h (leb d (length fs)) tooDeep _ tooDeep _ refl (calls g (S .called x g ys b refl) (valuesOf vs ys) (frame f i b vs x ∷ fs)))
@@ -147,18 +159,31 @@ module _ (k : ℕ) (P R : Program) where
   steps d (state f i (return x) vs fs) S = given-same h (getElem? vs x) _ _ (λ v. returns v fs)
   steps d (state f i (branch y z l m) vs fs) S =
       given-same h (getElem? vs y) _ _ (λ v. given-same h (getElem? vs z) _ _ (λ w. enters f (S .running) (cond (atMost v w) l m) vs fs))
-  steps d (state f i raise vs fs) S = raises f i raise vs fs S
+  steps d (state f i (raise r) vs fs) S = given-same h (numberOf vs r) _ _ (λ n. raises f i n (raise r) vs fs S)
+
+  -- The bindings of a raise look at the version, the count of variables and the receivers, which stay.
+  binds-same : (f : FunctionNumber) → Stands k P R f → (i : Handler) (r : Option Variable) → bindings (functionOf R (k + f)) i r ≡ bindings (functionOf P f) i r
+  binds-same f S zero none = ap (λ (F : Function). one (spareSlot F)) (S .function)
+  binds-same f S zero (some y) = refl
+  binds-same f S (suc l) r = ap (λ (o : Option Labelled). one (receiverIn o)) (label-stands f S (suc l)) ∙ by (labelledAt (functionOf P f .blocks) (suc l))
+    where
+      by : (o : Option Labelled) → one (receiverIn (Option·map (renumberedLabelled k) o)) ≡ one (receiverIn o)
+      by none = refl
+      by (some B) = refl
+
+  raise-same : (f : FunctionNumber) → Stands k P R f → (i : Handler) (r : Option Variable) (fs : List Frame) → raiseExtra R (k + f) i r (map (renumberedFrame k) fs) ≡ raiseExtra P f i r fs
+  raise-same f S i r fs = λ j. binds-same f S i r j + outside-same k i fs j
 
   weighs : (T : State) → Standing T → extra R (h T) ≡ extra P T
   weighs (state f i (constant x z b) vs fs) S = refl
   weighs (state f i (copy x y b) vs fs) S = refl
   weighs (state f i (difference x y z b) vs fs) S =
-      ap (λ (n : ℕ). cond (inRange (valueOf vs y -ℤ valueOf vs z)) 0 (suc n)) (outside-same k i fs)
+      ap (λ (n : ℕ). cond (inRange (valueOf vs y -ℤ valueOf vs z)) 0 (suc n)) (raise-same f (S .running) i none fs)
   weighs (state f i (call x g ys b) vs fs) S = ap (λ (G : Function). suc (G .locals)) (S .called x g ys b refl .function)
   weighs (state f i (goto l) vs fs) S = refl
   weighs (state f i (return x) vs fs) S = refl
   weighs (state f i (branch y z l m) vs fs) S = refl
-  weighs (state f i raise vs fs) S = outside-same k i fs
+  weighs (state f i (raise r) vs fs) S = raise-same f (S .running) i r fs
 
   module _ (Good : State → Type 0) (keeps : (d : ℕ) (T T′ : State) → Good T → step P d T ≡ next T′ → Good T′)
       (standing : (T : State) → Good T → Standing T) where
@@ -201,10 +226,10 @@ module _ (k : ℕ) (P R : Program) (stands : (g : FunctionNumber) → g < length
   block-wellFormed v n (goto l) w = w
   block-wellFormed v n (return x) w = w
   block-wellFormed v n (branch y z l m) w = w
-  block-wellFormed v n raise w = w
+  block-wellFormed v n (raise r) w = w
 
   labelled-wellFormed : (v n : ℕ) (B : Labelled) → WellFormedLabelled P v n B → WellFormedLabelled R v n (renumberedLabelled k B)
-  labelled-wellFormed v n B w = record { handler = w .handler; block = block-wellFormed v n (B .block) (w .block) }
+  labelled-wellFormed v n B w = record { handler = w .handler; receiver = w .receiver; block = block-wellFormed v n (B .block) (w .block) }
 
   function-wellFormed : (F : Function) → WellFormedFunction P F → WellFormedFunction R (renumberedFunction k F)
   function-wellFormed F w =

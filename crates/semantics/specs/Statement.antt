@@ -4,9 +4,10 @@ use Prim.Native.Nat.{ℕ, suc, _+_, _≤_, _<_}
 use mathlib.Core.Path.{_≡_}
 use mathlib.Core.Logic.{_↔_}
 use mathlib.Core.List.{List}
+use mathlib.Core.Option.{Option}
 use lib.IntN.{ℤ}
 use lib.ListN.{length}
-use Rattle.semantics.specs.Program.{FunctionNumber, IsCall, Program, variables, functionOf}
+use Rattle.semantics.specs.Program.{FunctionNumber, IsCall, Program, functionOf}
 use Rattle.semantics.specs.Run.{End, stuck, Stop, deep, Result, told, IsDeep, IsSpent, IsBroken, EndsWith, Forever}
 use Rattle.semantics.specs.Bench.{State, state, waiting, bench}
 use Rattle.semantics.specs.WellFormed.{All, WellFormed, WellFormedState}
@@ -14,7 +15,7 @@ use Rattle.semantics.specs.Code.{Slot, resume, handle, MakesRecord, Code
 use Rattle.semantics.specs.Controller.{continuation, handler, Environment, bindingAt, Record, Control, control, inUse, controlStep, controller, targetOf}
 use Rattle.semantics.specs.SlotRules.{KeepsSlotRules}
 use Rattle.semantics.specs.SlotStates.{StateKeeps}
-use Rattle.semantics.specs.Translation.{slotOf, number, translate}
+use Rattle.semantics.specs.Translation.{lastSlot, number, translate}
 use Rattle.semantics.specs.Extras.{extras}
 use Rattle.semantics.specs.Matching.{going, holding, HoldingsMatch, Matches}
 
@@ -22,7 +23,7 @@ use Rattle.semantics.specs.Matching.{going, holding, HoldingsMatch, Matc
 abbrev pub SameCall : Program → State → Control → Type 0
 SameCall P (state f h b vs fs) (control e env rs) = Matches P (state f h b vs fs) (control e env rs) × IsCall b × MakesRecord e
 
--- Two runs stopped alike: with the same value, uncaught, spent or deep; in matching states, variable for variable and waiting call for
+-- Two runs stopped alike: with the same value, uncaught with the same number, spent or deep; in matching states, variable for variable and waiting call for
 -- waiting call; deep at the same call.
 pub record StopsMatch (P : Program) (b : Stop State) (c : Stop Control) : Type 0 where
   pub alike : told c ≡ told b
@@ -35,7 +36,7 @@ pub record Agree (P : Program) (B : ℕ → Result State) (X : ℕ → ℕ) (C :
   pub counted : (n : ℕ) → C (B n .steps + X n) .steps ≡ B n .steps + X n
   -- .. and holds the matching state or the same end.
   pub matching : (n : ℕ) → HoldingsMatch P (holding (B n .stop)) (holding (C (B n .steps + X n) .stop))
-  -- One ends with a value exactly when the other ends with the same value, and one ends uncaught exactly when the other does.
+  -- One ends with a value exactly when the other ends with the same value, and one ends uncaught exactly when the other does, with the same number.
   pub sameEnd : (e : End) → EndsWith B e ↔ EndsWith C e
   -- With one step more for each, one stops deep exactly when the other does ..
   pub sameDeep : (n : ℕ) → IsDeep (B (B n .steps + 1) .stop) ↔ IsDeep (C (B n .steps + X n + 1) .stop)
@@ -75,10 +76,10 @@ ControllerSound = (m : ℕ) (Q : Code) → KeepsSlotRules m Q → (g : ℕ) → 
 -- Where a slot leads past the records in use, tags 5 and 6 are stuck: so ControllerSound says too that what is applied is a record in use, never one
 -- that was dropped.
 abbrev pub DroppedStuck : Type 0
-DroppedStuck = (Q : Code) (d n : ℕ) (k y : Slot) (env : Environment) (rs : List Record) → length rs < n
+DroppedStuck = (Q : Code) (d n : ℕ) (k y : Slot) (o : Option Slot) (env : Environment) (rs : List Record) → length rs < n
     → (bindingAt env k ≡ continuation n → controlStep Q d (control (resume k y) env rs) ≡ stuck)
-    × (bindingAt env k ≡ handler n → controlStep Q d (control (handle k) env rs) ≡ stuck)
+    × (bindingAt env k ≡ handler n → controlStep Q d (control (handle k o) env rs) ≡ stuck)
 
 -- The translation of a well-formed program keeps the slot rules, and names only functions that exist, with their argument counts.
 abbrev pub TranslationKeepsRules : Type 0
-TranslationKeepsRules = (m : ℕ) (P : Program) → WellFormed P → All (λ F. slotOf (suc (variables F)) < m) P → KeepsSlotRules m (translate P)
+TranslationKeepsRules = (m : ℕ) (P : Program) → WellFormed P → All (λ F. lastSlot F < m) P → KeepsSlotRules m (translate P)

@@ -6,16 +6,18 @@ use mathlib.Core.Path.{_≡_, refl, sym, ap, _∙_, subst}
 use mathlib.Core.Logic.{_↔_}
 use mathlib.Core.Bool.{Bool, true, false, cond}
 use mathlib.Core.List.{List, [], _∷_}
+use mathlib.Core.Option.{Option, none, some}
 use lib.Dec.{leb}
 use borrow.Author.Tests.{leb-true, leb-false}
 use lib.IntN.{ℤ, _-ℤ_}
 use Rattle.semantics.specs.Value.{inRange}
-use Rattle.semantics.specs.Program.{constant, copy, difference, call, goto, return, branch, raise, Program, functionOf}
+use Rattle.semantics.specs.Program.{FunctionNumber, Variable, Handler, constant, copy, difference, call, goto, return, branch, raise, Function, Program, functionOf}
 use Rattle.semantics.specs.Run.{End, Outcome, next, end, tooDeep, stuck, Stop, ended, spent, deep, broken, IsSpent, IsDeep, IsBroken, Result, told, oneMoreIfDeep, spentIfDeep, after, added, run, total}
 use Rattle.semantics.specs.Bench.{Frame, frame, State, state, begun, step, bench}
 use Rattle.semantics.specs.Controller.{Control, control, started, controlStep, controller}
 use Rattle.semantics.specs.Code.{Code}
-use Rattle.semantics.specs.Extras.{caught, caughtOutside, valueOf, extra, extras}
+use Rattle.semantics.specs.Extras.{caught, caughtOutside, one, bindings, raiseExtra, valueOf, extra, extras}
+use Rattle.semantics.specs.Translation.{spareSlot, receiverAt}
 use Rattle.semantics.specs.Matching.{over, going, holding, HoldingsMatch}
 use Rattle.semantics.specs.Statement.{SameCall, StopsMatch, Agree}
 use Rattle.semantics.specs.RunLaws.{IsLast, last, Goes, Ran, ran-spent, ran-last, ran, run-spent, run-last, run-deep}
@@ -90,20 +92,35 @@ outside-bound : (h : ℕ) (fs : List Frame) → caughtOutside h fs ≤ 1
 outside-bound zero fs = caught-bound fs
 outside-bound (suc h) fs = omega arith
 
-module _ (P : Program) (m : ℕ) (one : 1 ≤ m) (localsBound : (g : ℕ) → functionOf P g .locals ≤ m) where
+one-bound : {A : Type 0} (o : Option A) → one o ≤ 1
+one-bound none = omega arith
+one-bound (some a) = omega arith
+
+bindings-bound : (F : Function) (h : Handler) (r : Option Variable) → bindings F h r ≤ 1
+bindings-bound F zero none = let b : one (spareSlot F) ≤ 1 = one-bound (spareSlot F) in omega arith
+bindings-bound F zero (some y) = omega arith
+bindings-bound F (suc l) r = let b : one (receiverAt F (suc l)) ≤ 1 = one-bound (receiverAt F (suc l)) in omega arith
+
+raise-bound : (P : Program) (f : FunctionNumber) (h : Handler) (r : Option Variable) (fs : List Frame) → raiseExtra P f h r fs ≤ 2
+raise-bound P f h r fs =
+    let b : bindings (functionOf P f) h r ≤ 1 = bindings-bound (functionOf P f) h r in
+    let o : caughtOutside h fs ≤ 1 = outside-bound h fs in
+    omega arith
+
+module _ (P : Program) (m : ℕ) (two : 2 ≤ m) (localsBound : (g : ℕ) → functionOf P g .locals ≤ m) where
   pub extra-bound : (S : State) → extra P S ≤ suc m
   extra-bound (state f h (constant x i b) vs fs) = omega arith
   extra-bound (state f h (copy x y b) vs fs) = omega arith
   extra-bound (state f h (difference x y z b) vs fs) = by (inRange (valueOf vs y -ℤ valueOf vs z))
     where
-      by : (c : Bool) → cond c 0 (suc (caughtOutside h fs)) ≤ suc m
+      by : (c : Bool) → cond c 0 (suc (raiseExtra P f h none fs)) ≤ suc m
       by true = omega arith
-      by false = let l : caughtOutside h fs ≤ 1 = outside-bound h fs in omega arith
+      by false = let l : raiseExtra P f h none fs ≤ 2 = raise-bound P f h none fs in omega arith
   extra-bound (state f h (call x g ys b) vs fs) = let l : functionOf P g .locals ≤ m = localsBound g in omega arith
   extra-bound (state f h (goto l) vs fs) = omega arith
   extra-bound (state f h (return x) vs fs) = omega arith
   extra-bound (state f h (branch y z l m) vs fs) = omega arith
-  extra-bound (state f h raise vs fs) = let l : caughtOutside h fs ≤ 1 = outside-bound h fs in omega arith
+  extra-bound (state f h (raise r) vs fs) = let l : raiseExtra P f h r fs ≤ 2 = raise-bound P f h r fs in omega arith
 
   pub extras-bound : (f : ℕ) (args : List ℤ) (d n : ℕ) → extras P f args d n ≤ m + suc m * n
   unfolding extras

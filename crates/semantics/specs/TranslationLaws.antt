@@ -6,12 +6,12 @@ use mathlib.Core.Path.{_≡_, sym, ap, _∙_, subst}
 use mathlib.Core.List.{List, [], _∷_, _++_}
 use mathlib.Core.Option.{some}
 use lib.ListN.{length, getElem?, length-map}
-use Rattle.semantics.specs.Program.{FunctionNumber, Labelled, Function, Program, variables, functionOf}
+use Rattle.semantics.specs.Program.{FunctionNumber, Labelled, Function, Program, functionOf}
 use Rattle.semantics.specs.Translation.{entryTarget, blockTarget, targets, number, translateFunction, translateFrom, translate}
 use Rattle.semantics.specs.ListLaws.{at-append-left, at-append-right, at-map, at-below}
 
 pub length-translateFunction : (ns : FunctionNumber → ℕ) (b : ℕ) (F : Function) → length (translateFunction ns b F) ≡ targets F
-length-translateFunction ns b F = ap suc (length-map (F .blocks) (blockTarget ns b (variables F)))
+length-translateFunction ns b F = ap suc (length-map (F .blocks) (blockTarget ns b F))
 
 -- The j-th function that source function f becomes stands j past its entry.
 located : (ns : FunctionNumber → ℕ) (b : ℕ) (Fs : List Function) (f j : ℕ) → f < length Fs → j < targets (functionOf Fs f)
@@ -38,10 +38,10 @@ entry-at P f h =
 
 -- .. and its labelled blocks follow.
 pub block-at : (P : Program) (f l : ℕ) (B : Labelled) → f < length P → getElem? (functionOf P f .blocks) l ≡ some B
-    → getElem? (translate P) (number P f + suc l) ≡ some (blockTarget (number P) (number P f) (variables (functionOf P f)) B)
+    → getElem? (translate P) (number P f + suc l) ≡ some (blockTarget (number P) (number P f) (functionOf P f) B)
 unfolding translate
 block-at P f l B h e =
     let k : l < length (functionOf P f .blocks) = at-below (functionOf P f .blocks) l B e in
     located (number P) 0 P f (suc l) h (omega arith)
-    ∙ (at-map (blockTarget (number P) (0 + number P f) (variables (functionOf P f))) (functionOf P f .blocks) l B e
-    ∙ ap (λ (c : ℕ). some (blockTarget (number P) c (variables (functionOf P f)) B)) (zero-add (number P f)))
+    ∙ (at-map (blockTarget (number P) (0 + number P f) (functionOf P f)) (functionOf P f .blocks) l B e
+    ∙ ap (λ (c : ℕ). some (blockTarget (number P) c (functionOf P f) B)) (zero-add (number P f)))

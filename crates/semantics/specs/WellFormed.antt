@@ -3,9 +3,10 @@
 use Prim.Native.Nat.{ℕ, _≤_, _<_}
 use mathlib.Core.Path.{_≡_}
 use mathlib.Core.List.{List, [], _∷_}
+use mathlib.Core.Option.{Option, none, some}
 use lib.IntN.{ℤ}
 use lib.ListN.{length}
-use Rattle.semantics.specs.Program.{FunctionNumber, Label, Handler, Block, constant, copy, difference, call, goto, return, branch, raise, Labelled, Function, Program, variables, functionOf}
+use Rattle.semantics.specs.Program.{FunctionNumber, Variable, Label, Handler, Block, constant, copy, difference, call, goto, return, branch, raise, Labelled, Function, Program, variables, functionOf}
 use Rattle.semantics.specs.Bench.{Frame, frame, State, state}
 
 -- Q of every element.
@@ -21,6 +22,11 @@ IsLabel n l = (1 ≤ l) × (l ≤ n)
 abbrev pub IsHandler : ℕ → Handler → Type 0
 IsHandler n h = h ≤ n
 
+-- No variable, or one of the variables 0 to v - 1: of a receiver, and of what a raise names.
+abbrev pub MayName : ℕ → Option Variable → Type 0
+MayName v none = Unit {0}
+MayName v (some x) = x < v
+
 -- wf({f}, {z}, {L}, B), in a function of v variables and n labels.
 abbrev pub WellFormedBlock : Program → ℕ → ℕ → Block → Type 0
 WellFormedBlock P v n (constant x i b) = (x < v) × WellFormedBlock P v n b
@@ -31,11 +37,12 @@ WellFormedBlock P v n (call x g ys b) =
 WellFormedBlock P v n (goto l) = IsLabel n l
 WellFormedBlock P v n (return x) = x < v
 WellFormedBlock P v n (branch y z l m) = (y < v) × (z < v) × IsLabel n l × IsLabel n m
-WellFormedBlock P v n raise = Unit {0}
+WellFormedBlock P v n (raise r) = MayName v r
 
 -- wf({L}, H) and the block that it stands at.
 pub record WellFormedLabelled (P : Program) (v n : ℕ) (B : Labelled) : Type 0 where
   pub handler : IsHandler n (B .handler)
+  pub receiver : MayName v (B .receiver)
   pub block : WellFormedBlock P v n (B .block)
 
 -- wf({f}, D)
