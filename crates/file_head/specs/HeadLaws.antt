@@ -10,7 +10,8 @@ use lib.Seq.{drop-cons}
 use Rattle.parsing.specs.declared.Scan.{Scan}
 use Rattle.parsing.specs.declared.Scan.the-variants.{Past, Stopped}
 use Rattle.parsing.specs.Parser.{refusal, Parsed, read, refuse, andThen, pastOf}
-use Rattle.parsing.specs.Fields.{cut, marked, version, within, head}
+use Rattle.parsing.specs.Fields.{cut, marked, IsVersion, version, within, head}
+use Rattle.parsing.specs.ParserLaws.{is-version, no-version}
 use Rattle.parsing.specs.BytesAtLaws.{bytes-at-marked, bytes-at-version}
 use Rattle.file_head.specs.Turn.{inTurn}
 
@@ -32,13 +33,13 @@ module _ (s : List ℕ) (at : ℕ) where
   unfolding version
   version-short h = rw (lt-leb (at + 2) (length s) h)
 
-  pub version-other : at + 2 ≤ length s → (getD s at 0 + 256 * getD s (at + 1) 0 ≡ 1 → ⊥) → version s at ≡ refuse (refusal 2 at)
+  pub version-other : at + 2 ≤ length s → (IsVersion (getD s at 0 + 256 * getD s (at + 1) 0) → ⊥) → version s at ≡ refuse (refusal 2 at)
   unfolding version
-  version-other h n = rw (le-leb (at + 2) (length s) h, ne-eqb (getD s at 0 + 256 * getD s (at + 1) 0) 1 n)
+  version-other h n = rw (le-leb (at + 2) (length s) h, no-version (getD s at 0 + 256 * getD s (at + 1) 0) n)
 
-  pub version-right : at + 2 ≤ length s → getD s at 0 ≡ 1 → getD s (at + 1) 0 ≡ 0 → version s at ≡ read tt (at + 2)
+  pub version-right : at + 2 ≤ length s → IsVersion (getD s at 0 + 256 * getD s (at + 1) 0) → version s at ≡ read tt (at + 2)
   unfolding version
-  version-right h a b = rw (le-leb (at + 2) (length s) h, a, b)
+  version-right h k = rw (le-leb (at + 2) (length s) h, is-version (getD s at 0 + 256 * getD s (at + 1) 0) k)
 
 module _ (limit : ℕ) (s : List ℕ) (at : ℕ) where
   pub size-beyond : limit < length s → Stopped (refusal 15 limit) ≡ pastOf (within limit s at)
@@ -59,7 +60,7 @@ unfolding head
 head-in-turn ms limit s = past-in-turn (marked ms s 0) (λ u k. andThen (version s k) (λ v m. within limit s m)) after-mark
   where
     after-version : (v : Unit {0}) (m : ℕ) → version s (length ms) ≡ read v m → pastOf (within limit s (length ms + 2)) ≡ pastOf (within limit s m)
-    after-version v m e = ap (λ (k : ℕ). pastOf (within limit s k)) (sym (bytes-at-version s (length ms) e .past))
+    after-version v m e = ap (λ (k : ℕ). pastOf (within limit s k)) (sym (bytes-at-version s (length ms) e .0 .past))
 
     after-mark : (u : Unit {0}) (k : ℕ) → marked ms s 0 ≡ read u k
         → inTurn (pastOf (version s (length ms))) (pastOf (within limit s (length ms + 2))) ≡ pastOf (andThen (version s k) (λ v m. within limit s m))

@@ -30,7 +30,7 @@ fn mark_end(file: &[u8], mark: &[u8]) -> Scan
     Scan::Past(i)
 }
 
-// The version, judged once it is whole.
+// The version, 1 or 2, judged once it is whole.
 fn version_end(file: &[u8], at: usize) -> Scan
     ensures { λ r. ⌜ r ≡ pastOf (version (now (file .entry)) at) ⌝ }
 {
@@ -49,7 +49,13 @@ fn version_end(file: &[u8], at: usize) -> Scan
         });
     }
     let high = at + 1;
-    if file[at] != 1 {
+    if file[at] < 1 {
+        return Scan::Stopped(Refusal {
+            number: refusals::WRONG_VERSION,
+            place: at,
+        });
+    }
+    if 2 < file[at] {
         return Scan::Stopped(Refusal {
             number: refusals::WRONG_VERSION,
             place: at,

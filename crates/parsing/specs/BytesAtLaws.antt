@@ -11,8 +11,8 @@ use lib.ListN.{length, getD, take, drop, length-append}
 use lib.Seq.{drop-cons}
 use Rattle.parsing.specs.declared.Scan.the-variants.{Past}
 use Rattle.parsing.specs.Parser.{refusal, Parsed, read, refuse, Parser, andThen, joined, pastOf}
-use Rattle.parsing.specs.Fields.{cut, marked, version, within, head, ended}
-use Rattle.parsing.specs.ParserLaws.{impossible, sequence, ReadMany, none, one}
+use Rattle.parsing.specs.Fields.{cut, marked, IsVersion, isVersion, version, within, head, ended}
+use Rattle.parsing.specs.ParserLaws.{impossible, sequence, version-true, ReadMany, none, one}
 
 -- The bytes w stand from `at` on, up to `next`.
 pub record BytesAt (s : List ℕ) (at next : ℕ) (w : List ℕ) : Type 0 where
@@ -51,23 +51,22 @@ module _ (s : List ℕ) where
       go true false i j f w = impossible (cc)
       go false v i j f w = impossible (cc)
 
-  pub bytes-at-version : (at : ℕ) {u : Unit {0}} {next : ℕ} → version s at ≡ read u next → BytesAt s at next (1 ∷ 0 ∷ [])
+  pub bytes-at-version : (at : ℕ) {u : Unit {0}} {next : ℕ} → version s at ≡ read u next → BytesAt s at next (getD s at 0 ∷ 0 ∷ []) × IsVersion (getD s at 0)
   unfolding version
-  bytes-at-version at {u} {next} e = go (leb (at + 2) (length s)) (eqb (getD s at 0 + 256 * getD s (at + 1) 0) 1) refl refl e
+  bytes-at-version at {u} {next} e = go (leb (at + 2) (length s)) (isVersion (getD s at 0 + 256 * getD s (at + 1) 0)) refl refl e
     where
-      go : (t v : Bool) → leb (at + 2) (length s) ≡ t → eqb (getD s at 0 + 256 * getD s (at + 1) 0) 1 ≡ v
-          → cond t (cond v (read tt (at + 2)) (refuse (refusal 2 at))) (refuse (cut s)) ≡ read u next → BytesAt s at next (1 ∷ 0 ∷ [])
+      go : (t v : Bool) → leb (at + 2) (length s) ≡ t → isVersion (getD s at 0 + 256 * getD s (at + 1) 0) ≡ v
+          → cond t (cond v (read tt (at + 2)) (refuse (refusal 2 at))) (refuse (cut s)) ≡ read u next → BytesAt s at next (getD s at 0 ∷ 0 ∷ []) × IsVersion (getD s at 0)
       go true true i j w =
           let h = leb-true (at + 2) (length s) i in
-          let n = eqb-true (getD s at 0 + 256 * getD s (at + 1) 0) 1 j in
-          let a : getD s at 0 ≡ 1 = omega arith in
+          let n = version-true (getD s at 0 + 256 * getD s (at + 1) 0) j in
           let b : getD s (at + 1) 0 ≡ 0 = omega arith in
           let q : at + 2 ≡ next = cc in
           let p : at + 1 + 1 ≡ next = omega arith in
-          go₂ a b p (bytes-at-join (bytes-at-byte at (omega arith)) (bytes-at-byte (at + 1) (omega arith)))
+          (go₂ b p (bytes-at-join (bytes-at-byte at (omega arith)) (bytes-at-byte (at + 1) (omega arith))), (omega arith, omega arith))
         where
-          go₂ : {x y m : ℕ} → x ≡ 1 → y ≡ 0 → m ≡ next → BytesAt s at m (x ∷ y ∷ []) → BytesAt s at next (1 ∷ 0 ∷ [])
-          go₂ a b p r = rw (a, b, p) at r
+          go₂ : {x y m : ℕ} → y ≡ 0 → m ≡ next → BytesAt s at m (x ∷ y ∷ []) → BytesAt s at next (x ∷ 0 ∷ [])
+          go₂ b p r = rw (b, p) at r
       go true false i j w = impossible (cc)
       go false v i j w = impossible (cc)
 
@@ -80,13 +79,20 @@ module _ (s : List ℕ) where
 
   -- A head that was read: the file is within the limit, and begins with the mark and the version.
   pub read-head : (ms : List ℕ) (limit : ℕ) {u : Unit {0}} {next : ℕ} → head ms limit s 0 ≡ read u next
-      → (length s ≤ limit) × BytesAt s 0 next (ms ++ 1 ∷ 0 ∷ [])
+      → (length s ≤ limit) × BytesAt s 0 next (ms ++ getD s (length ms) 0 ∷ 0 ∷ []) × IsVersion (getD s (length ms) 0)
   unfolding head
   read-head ms limit {u} {next} e =
       let a = sequence (marked ms s 0) (λ v k. andThen (version s k) (λ w m. within limit s m)) e in
       let b = sequence (version s (a .middle)) (λ w m. within limit s m) (a .follows) in
       let c = read-within limit (b .middle) (b .follows) in
-      (c .0, subst (λ (m : ℕ). BytesAt s 0 m (ms ++ 1 ∷ 0 ∷ [])) (c .1) (bytes-at-join (bytes-at-marked ms 0 (a .reads)) (bytes-at-version (a .middle) (b .reads))))
+      let f = bytes-at-marked ms 0 (a .reads) in
+      let p : a .middle ≡ length ms = omega (arith, f .past) in
+      let v = bytes-at-version (a .middle) (b .reads) in
+      let t = bytes-at-join f (v .0) in (
+        c .0,
+        subst (λ (k : ℕ). BytesAt s 0 next (ms ++ getD s k 0 ∷ 0 ∷ [])) p (subst (λ (m : ℕ). BytesAt s 0 m (ms ++ getD s (a .middle) 0 ∷ 0 ∷ [])) (c .1) t),
+        subst (λ (k : ℕ). IsVersion (getD s k 0)) p (v .1),
+      )
 
   -- The same, from the offset past it.
   pub past-head : (ms : List ℕ) (limit : ℕ) {next : ℕ} → pastOf (head ms limit s 0) ≡ Past next
@@ -96,7 +102,7 @@ module _ (s : List ℕ) where
       go : (x : Parsed (Unit {0})) → head ms limit s 0 ≡ x → pastOf x ≡ Past next → (length s ≤ limit) × (x ≡ read tt (length ms + 2))
       go (read tt m) w f =
           let r = read-head ms limit w in
-          let p : m ≡ length ms + 2 = omega (arith, r .1 .past, length-append ms (1 ∷ 0 ∷ [])) in
+          let p : m ≡ length ms + 2 = omega (arith, r .1 .past, length-append ms (getD s (length ms) 0 ∷ 0 ∷ [])) in
           (r .0, ap (read tt) p)
       go (refuse r) w f = impossible (cc)
 

@@ -1,6 +1,6 @@
 -- The fields that files of both kinds share (document 01, 'What is turned down'), with the refusals 1 to 5 and 15.
-use Prim.Native.Nat.{ℕ, _+_, _*_}
-use mathlib.Core.Bool.{cond}
+use Prim.Native.Nat.{ℕ, _+_, _*_, _≤_}
+use mathlib.Core.Bool.{Bool, false, cond}
 use mathlib.Core.List.{List, [], _∷_}
 use lib.Dec.{leb, ltb, eqb}
 use lib.IntN.{ℤ}
@@ -26,12 +26,23 @@ marked [] s at = read tt at
 marked (m ∷ ms) s at =
     cond (ltb at (length s)) (cond (eqb (getD s at 0) m) (marked ms s (at + 1)) (refuse (refusal wrongMark at))) (refuse (cut s))
 
--- "version (16 bits, 1)", judged once it is whole: "2 version".
+-- "version (16 bits, 1)"; document 02 (Slip 7) has version 2 beside it.
+abbrev pub IsVersion : ℕ → Type 0
+IsVersion v = (1 ≤ v) × (v ≤ 2)
+
+abbrev pub isVersion : ℕ → Bool
+isVersion v = cond (leb 1 v) (leb v 2) false
+
+-- The version, judged once it is whole: "2 version".
 unfoldable pub version : Parser (Unit {0})
 version s at =
     cond (leb (at + 2) (length s))
-    (cond (eqb (getD s at 0 + 256 * getD s (at + 1) 0) 1) (read tt (at + 2)) (refuse (refusal wrongVersion at)))
+    (cond (isVersion (getD s at 0 + 256 * getD s (at + 1) 0)) (read tt (at + 2)) (refuse (refusal wrongVersion at)))
     (refuse (cut s))
+
+-- The version that a file's head gives: its low byte, which stands behind the mark.
+abbrev pub versionOf : List ℕ → ℕ
+versionOf s = getD s 3 0
 
 -- "15 file above its limit (.. place: the limit)."
 abbrev pub within : ℕ → Parser (Unit {0})

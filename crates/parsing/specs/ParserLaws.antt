@@ -4,14 +4,14 @@ use mathlib.Core.Path.{_≡_, refl, sym, ap, _∙_}
 use mathlib.Core.Bool.{Bool, true, false, cond}
 use mathlib.Core.List.{List, [], _∷_, _++_, append-assoc}
 use native.Mathlib.Omega.{arith}
-use borrow.Author.Tests.{ltb-true, leb-true, lt-ltb, le-ltb}
+use borrow.Author.Tests.{ltb-true, leb-true, leb-false, le-leb, lt-ltb, le-ltb}
 use lib.Dec.{leb, ltb}
 use lib.ListN.{length, getD}
 use Rattle.parsing.specs.declared.Refusal.{Refusal}
 use Rattle.parsing.specs.declared.Scan.the-variants.{Past, Stopped}
 use Rattle.parsing.specs.declared.Count.the-variants.{Is, Outside}
 use Rattle.parsing.specs.Parser.{refusal, Parsed, read, refuse, Parser, andThen, many, joined, pastOf}
-use Rattle.parsing.specs.Fields.{cut, byte, count, counted}
+use Rattle.parsing.specs.Fields.{cut, byte, IsVersion, isVersion, count, counted}
 
 -- Two constructors that are told equal: `impossible (cc)`.
 abbrev pub impossible : {A : Type 0} → _≡_ {A = ℕ} 0 1 → A
@@ -79,6 +79,27 @@ read-many {A} p s (suc n) at {as′} {next} e =
     go : {a : A} {more : List A} {middle m : ℕ} → read (a ∷ more) m ≡ read as′ next → p s at ≡ read a middle → ReadMany p s middle more m → length more ≡ n → ReadMany p s at as′ next × (length as′ ≡ suc n)
     go {a} {more} {middle} {m} w f g l =
         let x : a ∷ more ≡ as′ = cc in let y : m ≡ next = cc in rw (← x, ← y) (one f g, ap suc l)
+
+-- The test of a version.
+pub version-true : (v : ℕ) → isVersion v ≡ true → IsVersion v
+version-true v e = by (leb 1 v) refl e
+  where
+    by : (t : Bool) → leb 1 v ≡ t → cond t (leb v 2) false ≡ true → IsVersion v
+    by true i w = (leb-true 1 v i, leb-true v 2 w)
+    by false i w = impossible (cc)
+
+pub is-version : (v : ℕ) → IsVersion v → isVersion v ≡ true
+is-version v h = rw (le-leb 1 v (h .0), le-leb v 2 (h .1))
+
+pub version-false : (v : ℕ) → isVersion v ≡ false → IsVersion v → ⊥
+version-false v e h = let p : _≡_ {A = Bool} true false = sym (is-version v h) ∙ e in impossible (cc)
+
+pub no-version : (v : ℕ) → (IsVersion v → ⊥) → isVersion v ≡ false
+no-version v n = by (isVersion v) refl
+  where
+    by : (t : Bool) → isVersion v ≡ t → t ≡ false
+    by true e = absurd (n (version-true v e))
+    by false e = refl
 
 -- A byte and a count that were read.
 module _ (s : List ℕ) (at : ℕ) where

@@ -49,7 +49,7 @@ unboundSlot = 11
 abbrev pub wrongLength : ℕ
 wrongLength = 12
 
--- "13 slot above 35, or tag 9 with equal slots for both (at the handler slot)."
+-- "13 slot above 35, or tag 9 with equal slots for both (at the handler slot)." In version 2 slots reach 36 (document 02, Slip 7).
 abbrev pub wrongSlot : ℕ
 wrongSlot = 13
 

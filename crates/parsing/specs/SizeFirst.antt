@@ -5,7 +5,7 @@ use mathlib.Core.List.{List}
 use lib.ListN.{length, getD, take}
 use Rattle.parsing.specs.Refusals.{wrongMark, wrongVersion, fileTooLong}
 use Rattle.parsing.specs.Parser.{Parser, _>>=_, Verdict, refused}
-use Rattle.parsing.specs.Fields.{marked, version, within}
+use Rattle.parsing.specs.Fields.{marked, IsVersion, version, within}
 
 -- "Order: 15; then 1 to 6": the size, the mark, the version.
 unfoldable pub headSizeFirst : List ℕ → ℕ → Parser (Unit {0})
@@ -24,9 +24,9 @@ pub record WrongMark (mark s : List ℕ) (i : ℕ) : Type 0 where
   pub before : take i s ≡ take i mark
   pub wrong : getD s i 0 ≡ getD mark i 0 → ⊥
 
--- The version behind its mark is 1.
+-- The version behind its mark is 1 or 2.
 abbrev pub KnownVersion : List ℕ → List ℕ → Type 0
-KnownVersion mark s = getD s (length mark) 0 + 256 * getD s (length mark + 1) 0 ≡ 1
+KnownVersion mark s = IsVersion (getD s (length mark) 0 + 256 * getD s (length mark + 1) 0)
 
 -- "Changed answers" of a check of the file s, by its kind's mark and limit: with the size first, and now.
 pub data AnswerChange (mark : List ℕ) (limit : ℕ) (s : List ℕ) : Verdict → Verdict → Type 0 where

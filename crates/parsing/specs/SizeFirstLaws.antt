@@ -11,9 +11,9 @@ use lib.ListN.{length, getD, take, drop}
 use lib.Seq.{drop-cons, take-at, getD-take}
 use Rattle.parsing.specs.declared.Refusal.{Refusal}
 use Rattle.parsing.specs.Parser.{refusal, Parsed, read, refuse, andThen, Verdict, refused}
-use Rattle.parsing.specs.Fields.{marked, version, within, head}
+use Rattle.parsing.specs.Fields.{marked, isVersion, version, within, head}
 use Rattle.parsing.specs.SizeFirst.{headSizeFirst, RightMark, WrongMark, AnswerChange, markTold, versionTold, held}
-use Rattle.parsing.specs.ParserLaws.{impossible}
+use Rattle.parsing.specs.ParserLaws.{impossible, version-true, version-false}
 use Rattle.parsing.specs.BytesAtLaws.{bytes-at-marked}
 
 -- A mark is not both, so the cases of `AnswerChange` exclude each other.
@@ -81,15 +81,15 @@ module _ (mark : List ℕ) (limit : ℕ) (s : List ℕ) where
 
         right-mark : marked mark s 0 ≡ read tt (length mark) → RightMark mark s → AnswerChange mark limit s old new
         unfolding head version
-        right-mark e right = by (eqb (getD s (length mark) 0 + 256 * getD s (length mark + 1) 0) 1) refl
+        right-mark e right = by (isVersion (getD s (length mark) 0 + 256 * getD s (length mark + 1) 0)) refl
           where
-            by : (t : Bool) → eqb (getD s (length mark) 0 + 256 * getD s (length mark + 1) 0) 1 ≡ t → AnswerChange mark limit s old new
+            by : (t : Bool) → isVersion (getD s (length mark) 0 + 256 * getD s (length mark + 1) 0) ≡ t → AnswerChange mark limit s old new
             by true j =
                 rw (same (rw (e, le-leb (length mark + 2) (length s) (omega arith), j, lt-leb (length s) limit long) (sym (size-first long))))
-                (held (λ h. (right, eqb-true _ 1 j)))
+                (held (λ h. (right, version-true _ j)))
             by false j =
                 rw (oldTold _ (size-first long), newTold (refusal 2 (length mark)) (rw (e, le-leb (length mark + 2) (length s) (omega arith), j)))
-                (versionTold long right (eqb-false _ 1 j))
+                (versionTold long right (version-false _ j))
 
       pub changed : AnswerChange mark limit s old new
       changed = by (leb (length s) limit) refl (marked mark s 0) refl

@@ -3,7 +3,7 @@ pub mod refusals;
 
 ghost use mathlib.Core.Path.{_≡_};
 ghost use Rattle.parsing.specs.Parser.{pastOf, orElse, refusedUnless, verdictOf};
-ghost use Rattle.parsing.specs.Fields.{valueOf, counted, count, ended};
+ghost use Rattle.parsing.specs.Fields.{versionOf, valueOf, counted, count, ended};
 
 // A refusal is a number and a place.
 pub struct Refusal {
@@ -47,6 +47,16 @@ pub fn refused_unless(holds: bool, number: u8, place: usize) -> Checked
         return Checked::Accepted;
     }
     Checked::Refused(Refusal { number, place })
+}
+
+// The version that a file's head gives.
+pub fn version_of(file: &[u8]) -> u8
+    ensures { λ r. ⌜ r ≡ versionOf (now (file .entry)) ⌝ }
+{
+    if file.len() <= 3 {
+        return 0;
+    }
+    file[3]
 }
 
 // A count of one byte, in its range.

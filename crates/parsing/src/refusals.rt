@@ -24,7 +24,7 @@ pub const CALLEE_ARITY: u8 = 10;
 pub const UNBOUND_SLOT: u8 = 11;
 // "12 length unlike the part read."
 pub const WRONG_LENGTH: u8 = 12;
-// "13 slot above 35, or tag 9 with equal slots for both (at the handler slot)."
+// "13 slot above 35, or tag 9 with equal slots for both (at the handler slot)." In version 2 slots reach 36 (document 02, Slip 7).
 pub const WRONG_SLOT: u8 = 13;
 // "14 argument count unlike function 0's"; document 02 (Slip 4): unlike the start function's.
 pub const START_ARITY: u8 = 14;

@@ -22,16 +22,22 @@ shared-slice-read-if3 : tie.Need-shared-slice-read-if3
 shared-slice-read-if3 c = search needs
 
 returns-3 : tie.Need-returns-3
-returns-3 c = ap pastOf (sym (version-other _ _ (omega arith) (λ e. c .if3 .taken (omega arith))))
+returns-3 c = ap pastOf (sym (version-other _ _ (omega arith) (λ e. omega arith)))
 
 shared-slice-read-if4 : tie.Need-shared-slice-read-if4
 shared-slice-read-if4 c = search needs
 
 returns-4 : tie.Need-returns-4
-returns-4 c = ap pastOf (sym (version-other _ _ (omega arith) (λ e. c .if4 .taken (omega arith))))
+returns-4 c = ap pastOf (sym (version-other _ _ (omega arith) (λ e. omega arith)))
+
+shared-slice-read-if5 : tie.Need-shared-slice-read-if5
+shared-slice-read-if5 c = search needs
 
 returns-5 : tie.Need-returns-5
-returns-5 c = ap pastOf (sym (version-right _ _ (omega arith) (c .before .before .if3 .left) (c .if4 .left)))
+returns-5 c = ap pastOf (sym (version-other _ _ (omega arith) (λ e. c .if5 .taken (omega arith))))
+
+returns-6 : tie.Need-returns-6
+returns-6 c = ap pastOf (sym (version-right _ _ (omega arith) (omega arith, omega arith)))
 
 pub version-end-spec : {M : Type 1} → statement M
 version-end-spec =
@@ -45,4 +51,6 @@ version-end-spec =
     returns-3
     shared-slice-read-if4
     returns-4
-    returns-5)
+    shared-slice-read-if5
+    returns-5
+    returns-6)
