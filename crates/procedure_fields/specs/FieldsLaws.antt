@@ -8,13 +8,13 @@ use lib.Dec.{eqb}
 use lib.IntN.{ℤ}
 use lib.ListN.{length, getD, drop}
 use lib.Seq.{getD-take, getD-drop}
-use Rattle.parsing.specs.Fields.{valueAt}
+use Rattle.parsing.specs.Fields.{versionOf, valueAt}
 use Rattle.procedure_operations.specs.declared.operation.Operation.{Operation}
-use Rattle.procedure_operations.specs.declared.operation.Operation.the-variants.{Constant, Copy, Difference, Call, Goto, Return, Branch, Raise, Refused}
+use Rattle.procedure_operations.specs.declared.operation.Operation.the-variants.{Constant, Copy, Difference, Call, Goto, Return, Branch, Raise, RaiseValue, Refused}
 use Rattle.procedure_operations.specs.Operation.{operationAt, argumentsAt}
 use Rattle.procedure_operations.specs.Ranges.{NumbersInRange}
-use Rattle.procedure_operations.specs.OperationLaws.{op-constant, op-copy, op-difference, op-call, op-goto, op-return, op-branch}
-use Rattle.procedure_operations.specs.ViewLaws.{View, isConstant, isCopy, isDifference, isCall, isGoto, isReturn, isBranch, isRaise, isRefused, view}
+use Rattle.procedure_operations.specs.OperationLaws.{op-constant, op-copy, op-difference, op-call, op-goto, op-return, op-branch, op-raise-value}
+use Rattle.procedure_operations.specs.ViewLaws.{View, isConstant, isCopy, isDifference, isCall, isGoto, isReturn, isBranch, isRaise, isRaiseValue, isRefused, view}
 use Rattle.procedure_fields.specs.Number.{numberOf, countOf}
 use Rattle.procedure_fields.specs.NumberLaws.{argument-in-range}
 
@@ -27,7 +27,8 @@ width s at k =
     (cond (eqb k 4) (4 + getD s (at + 3) 0)
     (cond (eqb k 5) 2
     (cond (eqb k 6) 2
-    (cond (eqb k 7) 5 1))))))
+    (cond (eqb k 7) 5
+    (cond (eqb k 9) 2 1)))))))
 
 record Written (s : List ℕ) (at k : ℕ) : Type 0 where
   number : getD s at 0 ≡ k
@@ -44,6 +45,7 @@ module _ (s : List ℕ) (at : ℕ) where
   by-view (isReturn e h) p = record { number = e; room = h }
   by-view (isBranch e h) p = record { number = e; room = h }
   by-view (isRaise e h) p = record { number = e; room = h }
+  by-view (isRaiseValue e h v) p = record { number = e; room = h }
   by-view (isRefused r) p = absurd (omega (arith, p))
 
   by-room : {o : Operation} → View s at o → 1 ≤ numberOf o → at < length s
@@ -56,6 +58,7 @@ module _ (s : List ℕ) (at : ℕ) where
   by-room (isReturn e k) p = omega (arith, k)
   by-room (isBranch e k) p = omega (arith, k)
   by-room (isRaise e k) p = omega (arith, k)
+  by-room (isRaiseValue e k v) p = omega (arith, k)
   by-room (isRefused r) p = absurd (omega (arith, p))
 
   written : (k : ℕ) → numberOf (operationAt s at) ≡ k → 1 ≤ k → Written s at k
@@ -141,6 +144,29 @@ module _ (s : List ℕ) (at : ℕ) where
       → operationAt s at ≡ Branch y z (getD s (at + 3) 0) (getD s (at + 4) 0) (at + 5)
   branch-fields e p q = rw (p, q) (branch-bytes e)
 
+  pub raise-value-room : numberOf (operationAt s at) ≡ 9 → at + 2 ≤ length s
+  raise-value-room e = written 9 e (omega arith) .room
+
+  -- Operation 9 is read in version 2 alone.
+  by-version : {o : Operation} → View s at o → numberOf o ≡ 9 → versionOf s ≡ 2
+  unfolding numberOf
+  by-version (isConstant e k) p = absurd (omega (arith, p))
+  by-version (isCopy e k) p = absurd (omega (arith, p))
+  by-version (isDifference e k) p = absurd (omega (arith, p))
+  by-version (isCall e k) p = absurd (omega (arith, p))
+  by-version (isGoto e k) p = absurd (omega (arith, p))
+  by-version (isReturn e k) p = absurd (omega (arith, p))
+  by-version (isBranch e k) p = absurd (omega (arith, p))
+  by-version (isRaise e k) p = absurd (omega (arith, p))
+  by-version (isRaiseValue e k v) p = v
+  by-version (isRefused r) p = absurd (omega (arith, p))
+
+  pub raise-value-bytes : numberOf (operationAt s at) ≡ 9 → operationAt s at ≡ RaiseValue (getD s (at + 1) 0) (at + 2)
+  raise-value-bytes e = op-raise-value s at (written 9 e (omega arith) .number) (raise-value-room e) (by-version (view s at) e)
+
+  pub raise-value-fields : {x : ℕ} → numberOf (operationAt s at) ≡ 9 → x ≡ getD s (at + 1) 0 → operationAt s at ≡ RaiseValue x (at + 2)
+  raise-value-fields e p = rw (p) (raise-value-bytes e)
+
   -- Argument i of a call.
   module _ (i : ℕ) (h : i < countOf (operationAt s at)) where
     is-call : numberOf (operationAt s at) ≡ 4
@@ -156,6 +182,7 @@ module _ (s : List ℕ) (at : ℕ) where
         by (Return x n) p = absurd (omega (arith, p))
         by (Branch y z l m n) p = absurd (omega (arith, p))
         by (Raise n) p = absurd (omega (arith, p))
+        by (RaiseValue x n) p = absurd (omega (arith, p))
         by (Refused r) p = absurd (omega (arith, p))
 
     count-is : countOf (operationAt s at) ≡ getD s (at + 3) 0

@@ -6,13 +6,13 @@ use mathlib.Core.List.{List}
 use lib.ListN.{getD}
 use Rattle.parsing.specs.declared.Refusal.{Refusal}
 use Rattle.procedure_operations.specs.declared.operation.Operation.{Operation}
-use Rattle.procedure_operations.specs.declared.operation.Operation.the-variants.{Constant, Copy, Difference, Call, Goto, Return, Branch, Raise, Refused}
+use Rattle.procedure_operations.specs.declared.operation.Operation.the-variants.{Constant, Copy, Difference, Call, Goto, Return, Branch, Raise, RaiseValue, Refused}
 use Rattle.procedure_operations.specs.Operation.{argumentsAt}
 use Rattle.procedure_operations.specs.Ranges.{NumbersInRange}
 use Rattle.procedure_fields.specs.Number.{numberOf, countOf}
 
--- The numbers of operations are 1 to 8.
-pub number-known : (o : Operation) → ((r : Refusal) → o ≡ Refused r → ⊥) → (1 ≤ numberOf o) × (numberOf o ≤ 8)
+-- The numbers of operations are 1 to 9.
+pub number-known : (o : Operation) → ((r : Refusal) → o ≡ Refused r → ⊥) → (1 ≤ numberOf o) × (numberOf o ≤ 9)
 unfolding numberOf
 number-known (Constant x v n) h = (omega arith, omega arith)
 number-known (Copy x y n) h = (omega arith, omega arith)
@@ -22,6 +22,7 @@ number-known (Goto l n) h = (omega arith, omega arith)
 number-known (Return x n) h = (omega arith, omega arith)
 number-known (Branch y z l m n) h = (omega arith, omega arith)
 number-known (Raise n) h = (omega arith, omega arith)
+number-known (RaiseValue x n) h = (omega arith, omega arith)
 number-known (Refused r) h = absurd (h r refl)
 
 -- 8 is raise.
@@ -35,6 +36,7 @@ raise-known (Goto l n) e = absurd (omega (arith, e))
 raise-known (Return x n) e = absurd (omega (arith, e))
 raise-known (Branch y z l m n) e = absurd (omega (arith, e))
 raise-known (Raise n) e = (n, refl)
+raise-known (RaiseValue x n) e = absurd (omega (arith, e))
 raise-known (Refused r) e = absurd (omega (arith, e))
 
 -- The arguments of a call are in range.
@@ -48,4 +50,5 @@ argument-in-range s at (Goto l n) r i h = absurd (omega (arith, h))
 argument-in-range s at (Return x n) r i h = absurd (omega (arith, h))
 argument-in-range s at (Branch y z l m n) r i h = absurd (omega (arith, h))
 argument-in-range s at (Raise n) r i h = absurd (omega (arith, h))
+argument-in-range s at (RaiseValue x n) r i h = absurd (omega (arith, h))
 argument-in-range s at (Refused e) r i h = absurd (omega (arith, h))

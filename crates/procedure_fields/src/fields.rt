@@ -1,4 +1,4 @@
-// The fields of the operation at an offset, one function for each of the eight forms: for the bench and the translator, which stand at operations alone.
+// The fields of the operation at an offset, one function for each form that has any: for the bench and the translator, which stand at operations alone.
 use procedure_operations::numbers::FunctionNumber;
 use procedure_operations::numbers::VariableNumber;
 use procedure_operations::numbers::checked_function;
@@ -227,4 +227,22 @@ pub fn branch_fields(file: &[u8], at: usize) -> BranchFields
         other: file[m],
         next,
     }
+}
+
+// 9, a raise of a variable's value
+pub struct RaiseValueFields {
+    pub variable: VariableNumber,
+    pub next: usize,
+}
+
+pub fn raise_value_fields(file: &[u8], at: usize) -> RaiseValueFields
+    requires { ⌜ numberOf (operationAt (now file) at) ≡ 9 ⌝ }
+    requires { ⌜ NumbersInRange (now file) at (operationAt (now file) at) ⌝ }
+    ensures { λ r. ⌜ operationAt (now (file .entry)) at ≡ Operation.RaiseValue (r .variable .0) (r .next) ⌝ }
+{
+    let x = at + 1;
+    let next = at + 2;
+    let raised = file[x];
+    let variable = checked_variable(raised);
+    RaiseValueFields { variable, next }
 }

@@ -1,13 +1,15 @@
 -- What the functions behind `load` are asked, and what they give.
-use Prim.Native.Nat.{ℕ, _-_, _*_, _≤_, _<_}
+use Prim.Native.Nat.{ℕ, _+_, _-_, _*_, _≤_, _<_}
 use mathlib.Core.Path.{_≡_}
 use mathlib.Core.List.{List, _∷_}
+use mathlib.Core.Option.{Option}
 use lib.ListN.{length, getD, take}
 use Rattle.parsing.specs.Parser.{Verdict}
-use Rattle.semantics.specs.Program.{Program, variables, functionOf}
-use Rattle.procedure_layout.specs.Layout.{maxFunctions}
+use Rattle.parsing.specs.Fields.{versionOf}
+use Rattle.semantics.specs.Program.{Variable, Program, variables, functionOf}
+use Rattle.procedure_layout.specs.Layout.{maxFunctions, bytesBefore}
 use Rattle.procedure_layout.specs.Rest.{restAt}
-use Rattle.procedure_names.specs.Names.{handler, blockNames, functionNames, arities, firstWrong}
+use Rattle.procedure_names.specs.Names.{handler, receiver, blockNames, functionNames, arities, firstWrong}
 use Rattle.procedure_file.specs.Check.{programOf}
 use Rattle.procedure_file.specs.Places.{functionPlace}
 use Rattle.procedure_file.specs.Table.{index, entryOf, Table}
@@ -32,8 +34,10 @@ pub record Given (s : List ℕ) (count : ℕ) (starts params : List ℕ) : Type 
   pub paramsAre : take count params ≡ arities (programOf s)
 
 -- A labelled block as the function judges it.
-abbrev pub labelledVerdict : List ℕ → List ℕ → ℕ → ℕ → ℕ → ℕ → Verdict
-labelledVerdict ps s v n h start = firstWrong (handler n (start - 1) h ∷ blockNames ps v n start (restAt s start))
+abbrev pub labelledVerdict : List ℕ → List ℕ → ℕ → ℕ → ℕ → Option Variable → ℕ → Verdict
+labelledVerdict ps s v n h r start =
+    let place = start - bytesBefore (versionOf s) in
+    firstWrong (handler n place h ∷ receiver v (place + 1) r ∷ blockNames ps v n start (restAt s start))
 
 -- What judging the blocks of function f asks: its numbers of variables and of labels.
 pub record Naming (s starts : List ℕ) (f v labels : ℕ) : Type 0 where

@@ -11,10 +11,10 @@ use Rattle.parsing.specs.ParserLaws.{impossible}
 use Rattle.parsing.specs.Parser.{accepted}
 use Rattle.semantics.specs.Program.{Block, Function, Program, variables, functionOf, noFunction}
 use Rattle.semantics.specs.Bench.{labelledAt}
-use Rattle.semantics.specs.WellFormed.{IsLabel, WellFormed, WellFormedBlock, WellFormedLabelled, WellFormedFunction}
+use Rattle.semantics.specs.WellFormed.{IsLabel, MayName, WellFormed, WellFormedBlock, WellFormedLabelled, WellFormedFunction}
 use Rattle.semantics.specs.ListLaws.{at-getD, all-getD}
 use Rattle.procedure_operations.specs.declared.operation.Operation.{Operation}
-use Rattle.procedure_operations.specs.declared.operation.Operation.the-variants.{Constant, Copy, Difference, Call, Goto, Return, Branch, Raise, Refused}
+use Rattle.procedure_operations.specs.declared.operation.Operation.the-variants.{Constant, Copy, Difference, Call, Goto, Return, Branch, Raise, RaiseValue, Refused}
 use Rattle.procedure_layout.specs.declared.layout.After.the-variants.{Onward}
 use Rattle.procedure_operations.specs.Operation.{operationAt}
 use Rattle.procedure_operations.specs.Ranges.{NumbersInRange}
@@ -23,23 +23,23 @@ use Rattle.procedure_names.specs.Writing.{blockBytes}
 use Rattle.procedure_file.specs.Check.{checkOf, programOf}
 use Rattle.procedure_layout.specs.Rest.{restFrom, restAt}
 use Rattle.procedure_layout.specs.After.{afterOf}
-use Rattle.procedure_file.specs.Places.{startOf, noLabelled, blockOf, handlerOf}
+use Rattle.procedure_file.specs.Places.{startOf, noLabelled, blockOf, handlerOf, receiverOf}
 use Rattle.parsing.specs.Bytes.{Bytes}
 use Rattle.procedure_file.specs.FileInvariant.{Stands, FileInvariant}
 use Rattle.procedure_layout.specs.WalkLaws.{rest-law}
 use Rattle.procedure_layout.specs.LayoutLaws.{onward-moves}
-use Rattle.procedure_layout.specs.BlockLaws.{ReadBlock, readConstant, readCopy, readDifference, readCall, readGoto, readReturn, readBranch, readRaise, read-block}
+use Rattle.procedure_layout.specs.BlockLaws.{ReadBlock, readConstant, readCopy, readDifference, readCall, readGoto, readReturn, readBranch, readRaise, readRaiseValue, read-block}
 use Rattle.procedure_file.specs.WrittenLaws.{bytes-at-block, fit-block}
 use Rattle.procedure_file.specs.ReadsBackLaws.{reads-block}
 use Rattle.procedure_file.specs.AcceptedLaws.{laid-reads, passed, laid-by, is-writing}
 use Rattle.procedure_names.specs.NamedLaws.{call-room}
-use Rattle.procedure_file.specs.PlacesLaws.{rest-is, block-inside, start-at}
-use Rattle.procedure_operations.specs.OperationLaws.{op-constant, op-copy, op-difference, op-call, op-goto, op-return, op-branch, op-raise}
+use Rattle.procedure_file.specs.PlacesLaws.{rest-is, block-inside, version-is, start-at}
+use Rattle.procedure_operations.specs.OperationLaws.{op-constant, op-copy, op-difference, op-call, op-goto, op-return, op-branch, op-raise, op-raise-value}
 use Rattle.procedure_file.specs.TableLaws.{params-bound, locals-bound, blocks-bound}
 
 -- Where an operation stands, its block was read.
 stands-read : (s : List ℕ) (f at : ℕ) (w : Stands s f at) → ReadBlock s at (restAt s at) (at + length (blockBytes (restAt s at)))
-stands-read s f at w = read-block s at (reads-block (restAt s at) (w .values) s at (drop (w .past) s) (w .written))
+stands-read s f at w = read-block s at (reads-block (restAt s at) s (w .values) at (drop (w .past) s) (w .written))
 
 module _ (s : List ℕ) (bytes : Bytes s) where
   abbrev P : Program
@@ -73,6 +73,7 @@ module _ (s : List ℕ) (bytes : Bytes s) where
   by-read f at m h (readReturn e i) w a = impossible (cc (op-return s at e i))
   by-read f at m h (readBranch e i) w a = impossible (cc (op-branch s at e i))
   by-read f at m h (readRaise e i) w a = impossible (cc (op-raise s at e i))
+  by-read f at m h (readRaiseValue e i v) w a = impossible (cc (op-raise-value s at e i v))
 
 -- An operation that stands is none that is refused.
 not-refused : (s : List ℕ) (at : ℕ) (r : Refusal) {b : Block} {past : ℕ} → ReadBlock s at b past → operationAt s at ≡ Refused r → ⊥
@@ -84,6 +85,7 @@ not-refused s at r (readGoto e i) w = impossible (cc (op-goto s at e i))
 not-refused s at r (readReturn e i) w = impossible (cc (op-return s at e i))
 not-refused s at r (readBranch e i) w = impossible (cc (op-branch s at e i))
 not-refused s at r (readRaise e i) w = impossible (cc (op-raise s at e i))
+not-refused s at r (readRaiseValue e i v) w = impossible (cc (op-raise-value s at e i v))
 
 -- The numbers of a well-formed operation, in a function of at most 32 variables.
 module _ (P : Program) (v n : ℕ) (small : v ≤ 32) (most : length P ≤ 32) (s : List ℕ) (at : ℕ) where
@@ -104,9 +106,10 @@ module _ (P : Program) (v n : ℕ) (small : v ≤ 32) (most : length P ≤ 32) (
   numbers-of (Return x m) e w = omega (arith, w)
   numbers-of (Branch y z l k m) e w = (omega (arith, w .0), omega (arith, w .1))
   numbers-of (Raise m) e w = tt
+  numbers-of (RaiseValue x m) e w = omega (arith, w)
   numbers-of (Refused r) e w = tt
 
-labelled-is : (F : Function) (l : ℕ) → IsLabel (length (F .blocks)) l → labelledAt (F .blocks) l ≡ some (record { handler = handlerOf F l; block = blockOf F l })
+labelled-is : (F : Function) (l : ℕ) → IsLabel (length (F .blocks)) l → labelledAt (F .blocks) l ≡ some (record { handler = handlerOf F l; receiver = receiverOf F l; block = blockOf F l })
 labelled-is F zero h = absurd (omega (arith, h .0))
 labelled-is F (suc l) h = at-getD (F .blocks) l noLabelled (omega (arith, h .1))
 
@@ -117,6 +120,12 @@ formed-at P w f (suc l) h k =
     let F = functionOf P f in
     all-getD (WellFormedLabelled P (variables F) (length (F .blocks))) (F .blocks) l noLabelled (all-getD (WellFormedFunction P) P f noFunction w h .blocks) (omega arith) .block
 
+receiver-formed : (P : Program) → WellFormed P → (f l : ℕ) → f < length P → l ≤ length (functionOf P f .blocks) → MayName (variables (functionOf P f)) (receiverOf (functionOf P f) l)
+receiver-formed P w f zero h k = tt
+receiver-formed P w f (suc l) h k =
+    let F = functionOf P f in
+    all-getD (WellFormedLabelled P (variables F) (length (F .blocks))) (F .blocks) l noLabelled (all-getD (WellFormedFunction P) P f noFunction w h .blocks) (omega arith) .receiver
+
 pub invariant : (s : List ℕ) → Bytes s → checkOf s ≡ accepted → FileInvariant s
 invariant s bytes e =
     let a = passed s e in
@@ -126,6 +135,8 @@ invariant s bytes e =
     record {
       written = t .1;
       wellFormed = t .0 .wellFormed;
+      known = laid-reads L .known;
+      version = λ f h. version-is s bytes P (laid-reads L) f h;
       most = laid-reads L .most;
       counts = λ f h. record { params = params-bound s L f h; locals = locals-bound s L f h; blocks = blocks-bound s L f h };
       fileBound = L .fileBound;
@@ -133,6 +144,7 @@ invariant s bytes e =
       start = λ f l h k. read-stands s bytes f (startOf P f l) _ _ h (start-at s bytes P (laid-reads L) f h l k) (formed-at P (t .0 .wellFormed) f l h k);
       block = λ f l h k. rest-is s (start-at s bytes P (laid-reads L) f h l k);
       labelled = λ f l h. labelled-is (functionOf P f) l h;
+      receiver = λ f l h k. receiver-formed P (t .0 .wellFormed) f l h k;
       inside = λ f m w. let i = block-inside s (stands-read s f m w) in omega (arith, i .0, i .1);
       operation = λ f m r w x. not-refused s m r (stands-read s f m w) x;
       numbers = λ f m o w x.

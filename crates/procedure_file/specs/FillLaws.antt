@@ -6,8 +6,10 @@ use native.Mathlib.Omega.{arith}
 use native.Mathlib.Decide.{decLt}
 use lib.ListN.{length, getD, set, take, length-set, length-map, replicate, length-replicate}
 use lib.Seq.{getD-set-same, getD-set-other, ext-getD, getD-take, length-take-le}
+use Rattle.parsing.specs.Fields.{versionOf}
 use Rattle.semantics.specs.Program.{Program, functionOf}
-use Rattle.procedure_layout.specs.Layout.{block}
+use Rattle.procedure_layout.specs.Layout.{block, bytesBefore}
+use Rattle.procedure_layout.specs.LayoutLaws.{before-bounds}
 use Rattle.procedure_layout.specs.After.{endOf}
 use Rattle.procedure_names.specs.Names.{arities}
 use Rattle.procedure_names.specs.NamesLaws.{arity-of}
@@ -18,7 +20,7 @@ use Rattle.procedure_file.specs.Loaded.{Laid}
 use Rattle.procedure_file.specs.Asked.{FilledTo, Filled, Given}
 use Rattle.procedure_file.specs.AcceptedLaws.{laid-reads}
 use Rattle.procedure_file.specs.PlacesLaws.{function-ends}
-use Rattle.procedure_file.specs.TableLaws.{entry-there, entry-no-label, entry-no-function, functions-bound, blocks-bound, heading-inside, params-byte, blocks-byte, end-is, place-inside}
+use Rattle.procedure_file.specs.TableLaws.{entry-there, entry-no-label, entry-no-function, functions-bound, blocks-bound, heading-inside, params-byte, blocks-byte, end-is, place-inside, start-behind}
 
 zeros : (n i : ℕ) → getD (replicate {A = ℕ} n 0) i 0 ≡ 0
 zeros zero i = refl
@@ -106,13 +108,14 @@ module _ (s : List ℕ) (f at : ℕ) (starts : List ℕ) (w : Filled s f at star
       (functions-bound s (w .laid) f there, rw (w .place) (heading-inside s (w .laid) f there), w .laid .fileBound)
 
 module _ (s : List ℕ) (f labels : ℕ) (starts : List ℕ) (l place : ℕ) (w : Row s f labels starts l place) where
-  pub row-more : l < labels → (starts′ : List ℕ) (next : ℕ) → starts′ ≡ set starts (64 * f + (l + 1)) (place + 1) → next ≡ endOf (block s (place + 1))
-      → Row s f labels starts′ (l + 1) next
-  row-more less starts′ next es en =
+  pub row-more : (before : ℕ) → before ≡ bytesBefore (versionOf s) → l < labels
+      → (starts′ : List ℕ) (next : ℕ) → starts′ ≡ set starts (64 * f + (l + 1)) (place + before) → next ≡ endOf (block s (place + before)) → Row s f labels starts′ (l + 1) next
+  row-more before eb less starts′ next es en =
       let P = programOf s in
       let known : l + 1 ≤ length (functionOf P f .blocks) = omega (arith, w .labelsAre) in
       let m : l + 1 ≡ suc l = omega arith in
-      let x : place + 1 ≡ startOf P f (l + 1) = rw m (ap (λ (k : ℕ). k + 1) (w .placeIs)) in
+      let b : place + before ≡ startOf P f (suc l) = omega (arith, w .placeIs, start-behind s (w .laid) f (w .there) l) in
+      let x : place + before ≡ startOf P f (l + 1) = rw m b in
       let i : suc (64 * f + (l + 1)) ≡ 64 * f + (l + 1 + 1) = omega arith in
       record {
         laid = w .laid;
@@ -121,7 +124,7 @@ module _ (s : List ℕ) (f labels : ℕ) (starts : List ℕ) (l place : ℕ) (w 
         counterBound = omega arith;
         placeIs = en ∙ ap (λ (k : ℕ). endOf (block s k)) x ∙ end-is s (w .laid) f (w .there) (l + 1) known;
         entries = rw (es, ← i)
-            (entry-filled P (64 * f + (l + 1)) starts (w .entries) f (l + 1) (place + 1) refl (functions-bound s (w .laid) f (w .there))
+            (entry-filled P (64 * f + (l + 1)) starts (w .entries) f (l + 1) (place + before) refl (functions-bound s (w .laid) f (w .there))
             (omega (arith, blocks-bound s (w .laid) f (w .there))) (x ∙ sym (entry-there P f (l + 1) (w .there) known)));
       }
 
@@ -136,11 +139,12 @@ module _ (s : List ℕ) (f labels : ℕ) (starts : List ℕ) (l place : ℕ) (w 
         entries = row-filled P f l (f + 1) starts (w .entries) (w .there) n (omega (arith, blocks-bound s (w .laid) f (w .there))) refl;
       }
 
-  pub row-room : l < labels → (64 * f + (l + 1) < 2048) × (place < length s) × (length s ≤ 32768)
-  row-room h = (
+  pub row-room : (before : ℕ) → before ≡ bytesBefore (versionOf s) → l < labels → (64 * f + (l + 1) < 2048) × (place < length s) × (length s ≤ 32768) × (before ≤ 2)
+  row-room before eb h = (
     omega (arith, functions-bound s (w .laid) f (w .there), blocks-bound s (w .laid) f (w .there), w .labelsAre),
     rw (w .placeIs) (place-inside s (w .laid) f (w .there) l (omega (arith, w .labelsAre))),
     w .laid .fileBound,
+    omega (arith, before-bounds (versionOf s)),
   )
 
 -- The table is filled for the functions before f.

@@ -1,7 +1,8 @@
 -- The writing of a program in range is read as that program.
 use Prim.Native.Nat.{ℕ, _+_, _≤_}
-use mathlib.Core.Path.{_≡_, refl, sym, ap, _∙_}
+use mathlib.Core.Path.{_≡_, refl, sym, ap, _∙_, subst}
 use mathlib.Core.List.{List, [], _∷_, _++_, append-nil, append-assoc}
+use mathlib.Core.Option.{none, some}
 use native.Mathlib.Omega.{arith}
 use lib.IntN.{ℤ}
 use lib.ListN.{length, getD, take, drop, length-append}
@@ -9,18 +10,19 @@ use lib.Seq.{take-at}
 use mir.Syntax.{w32}
 use mir.Val.{SFits}
 use Rattle.parsing.specs.Parser.{read, andThen, many, joined}
-use Rattle.parsing.specs.Fields.{byte, count, valueAt}
+use Rattle.parsing.specs.Fields.{byte, versionOf, count, valueAt}
 use Rattle.parsing.specs.ReadsLaws.{Reads, behind, byte-here, first-here, length-here, next-here, reads-bind, reads-map, reads-many, reads-byte, reads-count, reads-head, reads-ended}
-use Rattle.semantics.specs.Program.{Block, constant, copy, difference, call, goto, return, branch, raise, Labelled, Function, Program}
+use Rattle.semantics.specs.Program.{Block, constant, copy, difference, call, goto, return, branch, raise, Labelled, Function, Program, programVersion}
 use Rattle.semantics.specs.ListLaws.{all-getD}
 use Rattle.procedure_operations.specs.declared.operation.Operation.{Operation}
-use Rattle.procedure_operations.specs.declared.operation.Operation.the-variants.{Constant, Copy, Difference, Call, Goto, Return, Branch, Raise}
+use Rattle.procedure_operations.specs.declared.operation.Operation.the-variants.{Constant, Copy, Difference, Call, Goto, Return, Branch, Raise, RaiseValue}
 use Rattle.procedure_operations.specs.Operation.{operationAt}
-use Rattle.procedure_layout.specs.Layout.{spf, fileLimit, argumentsAt, blockFrom, before, block, labelled, heading, function, functions, program}
+use Rattle.procedure_layout.specs.Layout.{spf, fileLimit, argumentsAt, blockFrom, before, block, receiver, labelled, heading, function, functions, program}
 use Rattle.parsing.specs.Bytes.{valueBytes}
 use Rattle.parsing.specs.BytesLaws.{value-forth}
-use Rattle.procedure_names.specs.Writing.{blockBytes, labelledBytes, functionBytes, writing, ValuesFit, FunctionInRange, InRange}
-use Rattle.procedure_operations.specs.OperationLaws.{op-constant, op-copy, op-difference, op-call, op-goto, op-return, op-branch, op-raise}
+use Rattle.procedure_names.specs.Writing.{blockBytes, labelledBytes, functionBytes, writing, ValuesFit, LabelledFits, FunctionInRange, InRange}
+use Rattle.procedure_names.specs.ReceiverLaws.{reads-receiver}
+use Rattle.procedure_operations.specs.OperationLaws.{op-constant, op-copy, op-difference, op-call, op-goto, op-return, op-branch, op-raise, op-raise-value}
 use Rattle.procedure_layout.specs.WalkLaws.{block-law}
 
 -- An operation before a block that is read.
@@ -84,62 +86,73 @@ module _ (s : List ℕ) (at : ℕ) where
       let k = length-here s at (8 ∷ rest) h in
       op-raise s at (first-here s at (8 ∷ rest) h) (omega arith)
 
-pub reads-block : (b : Block) → ValuesFit b → (s : List ℕ) (at : ℕ) (rest : List ℕ) → drop at s ≡ blockBytes b ++ rest → block s at ≡ read b (at + length (blockBytes b))
-reads-block (constant x i b) f s at rest h =
+  raise-value-here : (x : ℕ) (rest : List ℕ) → versionOf s ≡ 2 → drop at s ≡ 9 ∷ x ∷ rest → operationAt s at ≡ RaiseValue x (at + 2)
+  raise-value-here x rest v h =
+      let b = byte-here s at (9 ∷ x ∷ rest) h in
+      let k = length-here s at (9 ∷ x ∷ rest) h in
+      op-raise-value s at (first-here s at (9 ∷ x ∷ rest) h) (omega arith) v ∙ rw (b 1)
+
+pub reads-block : (b : Block) (s : List ℕ) → ValuesFit (versionOf s) b → (at : ℕ) (rest : List ℕ) → drop at s ≡ blockBytes b ++ rest → block s at ≡ read b (at + length (blockBytes b))
+reads-block (constant x i b) s f at rest h =
     block-behind s at (at + 6) _ _ (constant x i) b (from s at _ (constant-here s at x i (blockBytes b ++ rest) (f .0) h))
-    (reads-block b (f .1) s (at + 6) rest (next-here s at (1 ∷ x ∷ (valueBytes i ++ (blockBytes b ++ rest))) h 6)) (omega arith)
-reads-block (copy x y b) f s at rest h =
+    (reads-block b s (f .1) (at + 6) rest (next-here s at (1 ∷ x ∷ (valueBytes i ++ (blockBytes b ++ rest))) h 6)) (omega arith)
+reads-block (copy x y b) s f at rest h =
     block-behind s at (at + 3) _ _ (copy x y) b (from s at _ (copy-here s at x y (blockBytes b ++ rest) h))
-    (reads-block b f s (at + 3) rest (next-here s at (2 ∷ x ∷ y ∷ (blockBytes b ++ rest)) h 3)) (omega arith)
-reads-block (difference x y z b) f s at rest h =
+    (reads-block b s f (at + 3) rest (next-here s at (2 ∷ x ∷ y ∷ (blockBytes b ++ rest)) h 3)) (omega arith)
+reads-block (difference x y z b) s f at rest h =
     block-behind s at (at + 4) _ _ (difference x y z) b (from s at _ (difference-here s at x y z (blockBytes b ++ rest) h))
-    (reads-block b f s (at + 4) rest (next-here s at (3 ∷ x ∷ y ∷ z ∷ (blockBytes b ++ rest)) h 4)) (omega arith)
-reads-block (call x g ys b) f s at rest h =
+    (reads-block b s f (at + 4) rest (next-here s at (3 ∷ x ∷ y ∷ z ∷ (blockBytes b ++ rest)) h 4)) (omega arith)
+reads-block (call x g ys b) s f at rest h =
     let n = length ys in
     let h′ : drop at s ≡ 4 ∷ x ∷ g ∷ n ∷ (ys ++ (blockBytes b ++ rest)) = h ∙ ap (λ (l : List ℕ). 4 ∷ x ∷ g ∷ n ∷ l) (append-assoc ys (blockBytes b) rest) in
     let a : drop (at + 4) s ≡ ys ++ (blockBytes b ++ rest) = next-here s at (4 ∷ x ∷ g ∷ n ∷ (ys ++ (blockBytes b ++ rest))) h′ 4 in
     let as′ : argumentsAt s at n ≡ ys = ap (take n) a ∙ take-at ys (blockBytes b ++ rest) n refl in
     let o = call-here s at x g n (ys ++ (blockBytes b ++ rest)) h′ (omega (arith, length-append ys (blockBytes b ++ rest))) in
     block-behind s at (at + 4 + n) _ _ (call x g ys) b (from s at _ o ∙ ap (λ (l : List ℕ). before (call x g l) (block s (at + 4 + n))) as′)
-    (reads-block b f s (at + 4 + n) rest (behind s (at + 4) ys (blockBytes b ++ rest) a)) (omega (arith, length-append ys (blockBytes b)))
-reads-block (goto l) f s at rest h = from s at _ (goto-here s at l rest h)
-reads-block (return x) f s at rest h = from s at _ (return-here s at x rest h)
-reads-block (branch y z l m) f s at rest h = from s at _ (branch-here s at y z l m rest h)
-reads-block raise f s at rest h = from s at _ (raise-here s at rest h)
+    (reads-block b s f (at + 4 + n) rest (behind s (at + 4) ys (blockBytes b ++ rest) a)) (omega (arith, length-append ys (blockBytes b)))
+reads-block (goto l) s f at rest h = from s at _ (goto-here s at l rest h)
+reads-block (return x) s f at rest h = from s at _ (return-here s at x rest h)
+reads-block (branch y z l m) s f at rest h = from s at _ (branch-here s at y z l m rest h)
+reads-block (raise none) s f at rest h = from s at _ (raise-here s at rest h)
+reads-block (raise (some x)) s f at rest h = from s at _ (raise-value-here s at x rest f h)
 
-block-reads : (b : Block) → ValuesFit b → Reads block b (blockBytes b)
-block-reads b f = record { reads = reads-block b f }
+module _ (v : ℕ) where
+  block-reads : (b : Block) → ValuesFit v b → Reads v block b (blockBytes b)
+  block-reads b f = record { reads = λ s at rest e h. reads-block b s (subst (λ (w : ℕ). ValuesFit w b) (sym e) f) at rest h }
 
-labelled-reads : (B : Labelled) → ValuesFit (B .block) → Reads labelled B (labelledBytes B)
-unfolding labelled
-labelled-reads B f =
-    reads-bind byte (λ h s m. andThen (block s m) (λ b k. read (record { handler = h; block = b }) k)) (reads-byte (B .handler))
-    (reads-map block (λ b s m. read (record { handler = B .handler; block = b }) m) (block-reads (B .block) f) (λ s m. refl))
+  labelled-reads : (B : Labelled) → LabelledFits v B → Reads v labelled B (labelledBytes v B)
+  unfolding labelled
+  labelled-reads B f =
+      reads-bind byte (λ h s m. andThen (receiver s m) (λ r j. andThen (block s j) (λ b k. read (record { handler = h; receiver = r; block = b }) k))) (reads-byte (B .handler))
+      (reads-bind receiver (λ r s j. andThen (block s j) (λ b k. read (record { handler = B .handler; receiver = r; block = b }) k)) (reads-receiver v (B .receiver) (f .0))
+      (reads-map block (λ b s m. read (record { handler = B .handler; receiver = B .receiver; block = b }) m) (block-reads (B .block) (f .1)) (λ s m e. refl)))
 
-heading-reads : (p l n : ℕ) → p ≤ 8 → l ≤ 24 → n ≤ 63 → Reads heading (record { params = p; locals = l; blocks = n }) (p ∷ l ∷ n ∷ [])
-unfolding heading
-heading-reads p l n a b c =
-    reads-bind (count 0 8) (λ p s m. andThen (count 0 24 s m) (λ l m₂. andThen (count 0 63 s m₂) (λ n m₃. read (record { params = p; locals = l; blocks = n }) m₃))) (reads-count 0 8 p (omega arith) a)
-    (reads-bind (count 0 24) (λ l s m. andThen (count 0 63 s m) (λ n m₃. read (record { params = p; locals = l; blocks = n }) m₃)) (reads-count 0 24 l (omega arith) b)
-    (reads-map (count 0 63) (λ n s m. read (record { params = p; locals = l; blocks = n }) m) (reads-count 0 63 n (omega arith) c) (λ s m. refl)))
+  heading-reads : (p l n : ℕ) → p ≤ 8 → l ≤ 24 → n ≤ 63 → Reads v heading (record { params = p; locals = l; blocks = n }) (p ∷ l ∷ n ∷ [])
+  unfolding heading
+  heading-reads p l n a b c =
+      reads-bind (count 0 8) (λ p s m. andThen (count 0 24 s m) (λ l m₂. andThen (count 0 63 s m₂) (λ n m₃. read (record { params = p; locals = l; blocks = n }) m₃))) (reads-count 0 8 p (omega arith) a)
+      (reads-bind (count 0 24) (λ l s m. andThen (count 0 63 s m) (λ n m₃. read (record { params = p; locals = l; blocks = n }) m₃)) (reads-count 0 24 l (omega arith) b)
+      (reads-map (count 0 63) (λ n s m. read (record { params = p; locals = l; blocks = n }) m) (reads-count 0 63 n (omega arith) c) (λ s m e. refl)))
 
-function-reads : (F : Function) → FunctionInRange F → Reads function F (functionBytes F)
-unfolding function
-function-reads F r =
-    reads-bind heading (λ h s m. andThen (block s m) (λ b k. andThen (many (h .blocks) labelled s k) (λ bs j. read (record { params = h .params; locals = h .locals; entry = b; blocks = bs }) j)))
-    (heading-reads (F .params) (F .locals) (length (F .blocks)) (r .params) (r .locals) (r .blocks))
-    (reads-bind block (λ b s k. andThen (many (length (F .blocks)) labelled s k) (λ bs j. read (record { params = F .params; locals = F .locals; entry = b; blocks = bs }) j))
-    (block-reads (F .entry) (r .entryValues))
-    (reads-map (many (length (F .blocks)) labelled) (λ bs s j. read (record { params = F .params; locals = F .locals; entry = F .entry; blocks = bs }) j)
-    (reads-many labelled labelledBytes (F .blocks) (λ i d h. labelled-reads (getD (F .blocks) i d) (all-getD (λ B. ValuesFit (B .block)) (F .blocks) i d (r .blockValues) h)))
-    (λ s m. refl)))
+  function-reads : (F : Function) → FunctionInRange v F → Reads v function F (functionBytes F)
+  unfolding function
+  function-reads F r =
+      rw (r .versionIs)
+      (reads-bind heading (λ h s m. andThen (block s m) (λ b k. andThen (many (h .blocks) labelled s k) (λ bs j. read (record { version = versionOf s; params = h .params; locals = h .locals; entry = b; blocks = bs }) j)))
+      (heading-reads (F .params) (F .locals) (length (F .blocks)) (r .params) (r .locals) (r .blocks))
+      (reads-bind block (λ b s k. andThen (many (length (F .blocks)) labelled s k) (λ bs j. read (record { version = versionOf s; params = F .params; locals = F .locals; entry = b; blocks = bs }) j))
+      (block-reads (F .entry) (r .entryValues))
+      (reads-map (many (length (F .blocks)) labelled) (λ bs s j. read (record { version = versionOf s; params = F .params; locals = F .locals; entry = F .entry; blocks = bs }) j)
+      (reads-many labelled (labelledBytes v) (F .blocks) (λ i d h. labelled-reads (getD (F .blocks) i d) (all-getD (LabelledFits v) (F .blocks) i d (r .blockValues) h)))
+      (λ s m e. ap (λ (w : ℕ). read (record { version = w; params = F .params; locals = F .locals; entry = F .entry; blocks = F .blocks }) m) e))))
 
 pub reads-program : (P : Program) → InRange P → length (writing P) ≤ fileLimit → program (writing P) 0 ≡ read P (length (writing P))
 unfolding program functions writing
 reads-program P r fits =
-    let s : List ℕ = 83 ∷ 80 ∷ 70 ∷ 1 ∷ 0 ∷ length P ∷ joined functionBytes P in
-    let a = reads-head spf fileLimit s (length P ∷ joined functionBytes P) refl fits in
-    let c = reads-count 1 32 (length P) (r .some) (r .most) .reads s 5 (joined functionBytes P) refl in
-    let d = reads-many function functionBytes P (λ i e h. function-reads (getD P i e) (all-getD FunctionInRange P i e (r .functions) h)) .reads s 6 [] (sym (append-nil (joined functionBytes P))) in
+    let v = programVersion P in
+    let s : List ℕ = 83 ∷ 80 ∷ 70 ∷ v ∷ 0 ∷ length P ∷ joined functionBytes P in
+    let a = reads-head spf fileLimit s (length P ∷ joined functionBytes P) refl (r .version) fits in
+    let c = reads-count {v = v} 1 32 (length P) (r .some) (r .most) .reads s 5 (joined functionBytes P) refl refl in
+    let d = reads-many {v = v} function functionBytes P (λ i e h. function-reads v (getD P i e) (all-getD (FunctionInRange v) P i e (r .functions) h)) .reads s 6 [] refl (sym (append-nil (joined functionBytes P))) in
     let n : 6 + length (joined functionBytes P) ≡ length s = omega arith in
     rw (a, c, d, n, reads-ended s (length s) (omega arith))

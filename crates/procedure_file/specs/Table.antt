@@ -1,5 +1,5 @@
--- The table that machines and translator go by: where the first operation of each block stands. A block's handler stands before it, a
--- function's counts before its entry block.
+-- The table that machines and translator go by: where the first operation of each block stands. A block's handler and, in version 2, its
+-- receiver stand before it, a function's counts before its entry block.
 use Prim.Native.Nat.{ℕ, _+_, _*_, _<_}
 use mathlib.Core.Path.{_≡_}
 use mathlib.Core.Bool.{cond}

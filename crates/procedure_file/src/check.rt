@@ -5,6 +5,7 @@ use casts::byte_number;
 use parsing::Checked;
 use parsing::Refusal;
 use parsing::Scan;
+use parsing::or_else;
 use parsing::refusals;
 use procedure_layout::layout;
 use procedure_names::names;
@@ -15,11 +16,11 @@ ghost use Rattle.parsing.specs.Parser.{verdictOf};
 ghost use Rattle.semantics.specs.Program.{functionOf};
 ghost use Rattle.procedure_names.specs.Names.{arities, namesOf, firstWrong};
 ghost use Rattle.procedure_file.specs.Check.{checkOf, programOf};
-ghost use Rattle.procedure_file.specs.Places.{startOf, handlerOf};
+ghost use Rattle.procedure_file.specs.Places.{startOf, handlerOf, receiverOf};
 ghost use Rattle.procedure_file.specs.Loaded.{Laid, Tabled, LoadedOr};
 ghost use Rattle.procedure_file.specs.Asked.{labelledVerdict, Naming, functionVerdict};
 
-// The block with label l of function f, which is not 0: its handler, which stands before its first operation, and its operations.
+// The block with label l of function f, which is not 0: its handler and its receiver, which stand before its first operation, and its operations.
 fn labelled_named(
     file: &[u8],
     starts: &[u16; 2048],
@@ -31,18 +32,23 @@ fn labelled_named(
 ) -> Checked
     requires { ⌜ Tabled (now file) (now starts) ⌝ }
     requires { ⌜ (f < length (programOf (now file))) × (1 ≤ l) × (l ≤ length (functionOf (programOf (now file)) f .blocks)) ⌝ }
-    ensures { λ r. ⌜ verdictOf r ≡ labelledVerdict (now (params .entry)) (now (file .entry)) variables labels (handlerOf (functionOf (programOf (now (file .entry))) f) l) (startOf (programOf (now (file .entry))) f l) ⌝ }
+    ensures { λ r. ⌜ verdictOf r ≡ labelledVerdict (now (params .entry)) (now (file .entry)) variables labels (handlerOf (functionOf (programOf (now (file .entry))) f) l) (receiverOf (functionOf (programOf (now (file .entry))) f) l) (startOf (programOf (now (file .entry))) f l) ⌝ }
 {
     let start = table::start_of(file, starts, f, l);
+    let before = layout::bytes_before(file);
+    let place = start - before;
     let handler = byte_number(table::handler_of(file, starts, f, l));
     if labels < handler {
-        let place = start - 1;
         return Checked::Refused(Refusal {
             number: refusals::MISSING_LABEL,
             place,
         });
     }
-    names::block_named(file, start, params, variables, labels)
+    let x = table::receiver_of(file, starts, f, l);
+    let receiver_place = place + 1;
+    let receiver = names::receiver_named(x, variables, receiver_place);
+    let block = names::block_named(file, start, params, variables, labels);
+    or_else(receiver, block)
 }
 
 // The names of the blocks of function f, of which `variables` and `labels` are the numbers.

@@ -2,6 +2,7 @@
 use crate::table::block_past;
 use crate::table::functions_of;
 use casts::byte_number;
+use procedure_layout::layout;
 ghost use mathlib.Core.Path.{_≡_};
 ghost use Prim.Native.Nat.{ℕ, _+_, _<_};
 ghost use lib.ListN.{length, replicate};
@@ -19,13 +20,14 @@ fn fill_row(file: &[u8], f: usize, at: usize, starts: &mut [u16]) -> usize
     let entry = at + 3;
     let count = at + 2;
     let labels = byte_number(file[count]);
+    let before = layout::bytes_before(file);
     starts[row] = entry as u16;
     let mut place = block_past(file, entry);
     let mut l = 0;
     while l < labels {
         l += 1;
         let index = row + l;
-        let start = place + 1;
+        let start = place + before;
         starts[index] = start as u16;
         place = block_past(file, start);
     }

@@ -1,4 +1,4 @@
-// Reading a file by its table: where a block starts, its handler, the counts of a function, the number of functions.
+// Reading a file by its table: where a block starts, its handler, its receiver, the counts of a function, the number of functions.
 use casts::byte_number;
 use casts::offset_number;
 use parsing::Scan;
@@ -9,8 +9,9 @@ ghost use lib.ListN.{length};
 ghost use Rattle.semantics.specs.Program.{functionOf};
 ghost use Rattle.procedure_layout.specs.Layout.{block};
 ghost use Rattle.procedure_layout.specs.After.{endOf};
+ghost use Rattle.procedure_names.specs.Writing.{receiverByte};
 ghost use Rattle.procedure_file.specs.Check.{programOf};
-ghost use Rattle.procedure_file.specs.Places.{startOf, handlerOf};
+ghost use Rattle.procedure_file.specs.Places.{startOf, handlerOf, receiverOf};
 ghost use Rattle.procedure_file.specs.Loaded.{Laid, Tabled};
 
 // Where the block with label l of function f starts; label 0 is the entry block.
@@ -23,12 +24,27 @@ pub fn start_of(file: &[u8], starts: &[u16; 2048], f: usize, l: usize) -> usize
     offset_number(starts[index])
 }
 
-// The handler of the block with label l, which is not 0: the byte before its start.
+// The handler of the block with label l, which is not 0: the first of the bytes before its start. They are as many as the version says, 1 or 2.
 pub fn handler_of(file: &[u8], starts: &[u16; 2048], f: usize, l: usize) -> u8
     requires { ⌜ Tabled (now file) (now starts) ⌝ }
     requires { ⌜ (f < length (programOf (now file))) × (1 ≤ l) × (l ≤ length (functionOf (programOf (now file)) f .blocks)) ⌝ }
     ensures { λ r. ⌜ r ≡ handlerOf (functionOf (programOf (now (file .entry))) f) l ⌝ }
 {
+    let start = start_of(file, starts, f, l);
+    let before = byte_number(file[3]);
+    let at = start - before;
+    file[at]
+}
+
+// The byte of its receiver, in version 2 the one before its start; 255 is none.
+pub fn receiver_of(file: &[u8], starts: &[u16; 2048], f: usize, l: usize) -> u8
+    requires { ⌜ Tabled (now file) (now starts) ⌝ }
+    requires { ⌜ (f < length (programOf (now file))) × (1 ≤ l) × (l ≤ length (functionOf (programOf (now file)) f .blocks)) ⌝ }
+    ensures { λ r. ⌜ r ≡ receiverByte (receiverOf (functionOf (programOf (now (file .entry))) f) l) ⌝ }
+{
+    if parsing::version_of(file) != 2 {
+        return 255;
+    }
     let at = start_of(file, starts, f, l) - 1;
     file[at]
 }

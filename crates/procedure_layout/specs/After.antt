@@ -4,7 +4,7 @@ use Rattle.parsing.specs.declared.Count.{Count}
 use Rattle.parsing.specs.declared.Count.the-variants.{Is, Outside}
 use Rattle.parsing.specs.Parser.{Parsed, read, refuse}
 use Rattle.procedure_operations.specs.declared.operation.Operation.{Operation}
-use Rattle.procedure_operations.specs.declared.operation.Operation.the-variants.{Constant, Copy, Difference, Call, Goto, Return, Branch, Raise, Refused}
+use Rattle.procedure_operations.specs.declared.operation.Operation.the-variants.{Constant, Copy, Difference, Call, Goto, Return, Branch, Raise, RaiseValue, Refused}
 use Rattle.procedure_layout.specs.declared.layout.After.{After}
 use Rattle.procedure_layout.specs.declared.layout.After.the-variants.{Onward, Ended, Halted}
 use Rattle.semantics.specs.Program.{Block}
@@ -20,6 +20,7 @@ afterOf (Goto l next) = Ended next
 afterOf (Return x next) = Ended next
 afterOf (Branch y z l m next) = Ended next
 afterOf (Raise next) = Ended next
+afterOf (RaiseValue x next) = Ended next
 afterOf (Refused r) = Halted r
 
 -- The labelled block count of a heading.

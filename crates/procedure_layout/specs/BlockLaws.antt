@@ -2,15 +2,16 @@
 use Prim.Native.Nat.{ℕ, zero, suc, _+_, _≤_, _<_}
 use mathlib.Core.Path.{_≡_, sym, ap, _∙_}
 use mathlib.Core.List.{List}
+use mathlib.Core.Option.{none, some}
 use native.Mathlib.Omega.{arith}
 use lib.ListN.{length, getD}
 use Rattle.parsing.specs.ParserLaws.{impossible}
 use Rattle.parsing.specs.Parser.{Parsed, read, refuse}
-use Rattle.parsing.specs.Fields.{valueAt}
+use Rattle.parsing.specs.Fields.{versionOf, valueAt}
 use Rattle.semantics.specs.Program.{Block, constant, copy, difference, call, goto, return, branch, raise}
 use Rattle.procedure_operations.specs.declared.operation.Operation.{Operation}
 use Rattle.procedure_layout.specs.Layout.{blockFrom, before, argumentsAt, block}
-use Rattle.procedure_operations.specs.ViewLaws.{View, isConstant, isCopy, isDifference, isCall, isGoto, isReturn, isBranch, isRaise, isRefused, view}
+use Rattle.procedure_operations.specs.ViewLaws.{View, isConstant, isCopy, isDifference, isCall, isGoto, isReturn, isBranch, isRaise, isRaiseValue, isRefused, view}
 use Rattle.procedure_layout.specs.WalkLaws.{block-law}
 
 pub data ReadBlock (s : List ℕ) : ℕ → Block → ℕ → Type 0 where
@@ -27,7 +28,8 @@ pub data ReadBlock (s : List ℕ) : ℕ → Block → ℕ → Type 0 where
   readReturn : {at : ℕ} → getD s at 0 ≡ 6 → at + 2 ≤ length s → ReadBlock s at (return (getD s (at + 1) 0)) (at + 2)
   readBranch : {at : ℕ} → getD s at 0 ≡ 7 → at + 5 ≤ length s
       → ReadBlock s at (branch (getD s (at + 1) 0) (getD s (at + 2) 0) (getD s (at + 3) 0) (getD s (at + 4) 0)) (at + 5)
-  readRaise : {at : ℕ} → getD s at 0 ≡ 8 → at + 1 ≤ length s → ReadBlock s at raise (at + 1)
+  readRaise : {at : ℕ} → getD s at 0 ≡ 8 → at + 1 ≤ length s → ReadBlock s at (raise none) (at + 1)
+  readRaiseValue : {at : ℕ} → getD s at 0 ≡ 9 → at + 2 ≤ length s → versionOf s ≡ 2 → ReadBlock s at (raise (some (getD s (at + 1) 0))) (at + 2)
 
 -- A block behind its first operation was read.
 record Behind (o : Block → Block) (x : Parsed Block) (b : Block) (next : ℕ) : Type 0 where
@@ -65,7 +67,9 @@ module _ (s : List ℕ) where
       let q : at + 5 ≡ next = cc in
       rw (← p, ← q) (readBranch e h)
   by-operation at {o} {b} {next} (isRaise e h) rec w =
-      let p : raise ≡ b = cc in let q : at + 1 ≡ next = cc in rw (← p, ← q) (readRaise e h)
+      let p : raise none ≡ b = cc in let q : at + 1 ≡ next = cc in rw (← p, ← q) (readRaise e h)
+  by-operation at {o} {b} {next} (isRaiseValue e h v) rec w =
+      let p : raise (some (getD s (at + 1) 0)) ≡ b = cc in let q : at + 2 ≡ next = cc in rw (← p, ← q) (readRaiseValue e h v)
   by-operation at (isRefused r) rec w = impossible (cc)
 
   with-fuel : (n at : ℕ) {b : Block} {next : ℕ} → length s ≤ n + at → block s at ≡ read b next → ReadBlock s at b next

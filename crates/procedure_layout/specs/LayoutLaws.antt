@@ -1,23 +1,29 @@
 -- Laws of the layout, as the functions that walk a file meet them.
 use Prim.Native.Nat.{ℕ, _+_, _≤_, _<_}
-use mathlib.Core.Path.{_≡_, refl, ap, _∙_}
+use mathlib.Core.Path.{_≡_, refl, sym, ap, _∙_}
+use mathlib.Core.Bool.{Bool, true, false, cond}
+use mathlib.Core.Logic.{_≢_}
 use mathlib.Core.List.{List}
+use mathlib.Core.Option.{Option, none}
 use native.Mathlib.Omega.{arith}
+use borrow.Author.Tests.{eq-eqb, ne-eqb, ltb-false}
+use lib.Dec.{ltb, eqb}
 use lib.ListN.{length, getD}
 use Rattle.parsing.specs.declared.Refusal.{Refusal}
 use Rattle.parsing.specs.declared.Scan.the-variants.{Past, Stopped}
 use Rattle.parsing.specs.declared.Count.the-variants.{Is, Outside}
 use Rattle.parsing.specs.Parser.{Parsed, read, refuse, andThen, many, pastOf}
-use Rattle.parsing.specs.Fields.{cut, byte, head, count, counted, ended}
+use Rattle.parsing.specs.Fields.{cut, byte, versionOf, head, count, counted, ended}
 use Rattle.parsing.specs.ParserLaws.{impossible, past-read, past-refuse, byte-in, byte-cut, read-count, count-is, count-outside, sequence}
 use Rattle.parsing.specs.BytesAtLaws.{read-head, past-head}
-use Rattle.semantics.specs.Program.{Block, Labelled, Function, Program}
+use Rattle.semantics.specs.Program.{Variable, Block, Labelled, Function, Program}
 use Rattle.procedure_operations.specs.declared.operation.Operation.{Operation}
 use Rattle.procedure_layout.specs.declared.layout.After.the-variants.{Onward, Ended, Halted}
 use Rattle.procedure_operations.specs.Operation.{operationAt}
-use Rattle.procedure_layout.specs.Layout.{spf, fileLimit, blockFrom, before, block, labelled, Heading, heading, function, functions, program}
+use Rattle.procedure_layout.specs.Layout.{spf, fileLimit, blockFrom, before, block, asReceiver, bytesBefore, labelled, Heading, heading, function, functions, program}
 use Rattle.procedure_layout.specs.After.{afterOf, blocksOf, endOf}
-use Rattle.procedure_operations.specs.ViewLaws.{View, isConstant, isCopy, isDifference, isCall, isGoto, isReturn, isBranch, isRaise, isRefused, view}
+use Rattle.procedure_operations.specs.OperationLaws.{operation-past}
+use Rattle.procedure_operations.specs.ViewLaws.{View, isConstant, isCopy, isDifference, isCall, isGoto, isReturn, isBranch, isRaise, isRaiseValue, isRefused, view}
 use Rattle.procedure_layout.specs.WalkLaws.{block-law}
 
 past-before : (o : Block → Block) (x : Parsed Block) → pastOf (before o x) ≡ pastOf x
@@ -41,6 +47,7 @@ module _ (s : List ℕ) (at next : ℕ) where
       go (isReturn e h) w = impossible (cc)
       go (isBranch e h) w = impossible (cc)
       go (isRaise e h) w = impossible (cc)
+      go (isRaiseValue e h v) w = impossible (cc)
       go (isRefused r) w = impossible (cc)
 
   pub block-ended : afterOf (operationAt s at) ≡ Ended next → pastOf (block s at) ≡ Past next
@@ -55,6 +62,7 @@ module _ (s : List ℕ) (at next : ℕ) where
       go (isReturn e h) w = cc
       go (isBranch e h) w = cc
       go (isRaise e h) w = cc
+      go (isRaiseValue e h v) w = cc
       go (isRefused r) w = impossible (cc)
 
   -- An operation that does not end a block leads forward, inside the file.
@@ -73,6 +81,7 @@ module _ (s : List ℕ) (at next : ℕ) where
       go (isReturn e h) w = impossible (cc)
       go (isBranch e h) w = impossible (cc)
       go (isRaise e h) w = impossible (cc)
+      go (isRaiseValue e h v) w = impossible (cc)
       go (isRefused r) w = impossible (cc)
 
 pub block-halted : (s : List ℕ) (at : ℕ) (r : Refusal) → afterOf (operationAt s at) ≡ Halted r → pastOf (block s at) ≡ Stopped r
@@ -87,6 +96,7 @@ block-halted s at r e = ap pastOf (block-law s at) ∙ go (view s at) e
     go (isReturn e h) w = impossible (cc)
     go (isBranch e h) w = impossible (cc)
     go (isRaise e h) w = impossible (cc)
+    go (isRaiseValue e h v) w = impossible (cc)
     go (isRefused q) w = cc
 
 -- A labelled block.
@@ -95,13 +105,45 @@ module _ (s : List ℕ) (at : ℕ) where
   unfolding labelled
   labelled-cut h = rw (byte-cut s at h)
 
-  pub labelled-in : at < length s → pastOf (labelled s at) ≡ pastOf (block s (at + 1))
-  unfolding labelled
-  labelled-in h = rw (byte-in s at h) (go (block s (at + 1)))
+  pub labelled-in : at < length s → pastOf (labelled s at) ≡ pastOf (block s (at + bytesBefore (versionOf s)))
+  unfolding labelled bytesBefore
+  labelled-in h = rw (byte-in s at h) (by (eqb (versionOf s) 2))
     where
-      go : (x : Parsed Block) → pastOf {A = Labelled} (andThen x (λ b m. read (record { handler = getD s at 0; block = b }) m)) ≡ pastOf x
-      go (read b m) = refl
-      go (refuse r) = refl
+      last : (r : Option Variable) (x : Parsed Block) → pastOf {A = Labelled} (andThen x (λ b m. read (record { handler = getD s at 0; receiver = r; block = b }) m)) ≡ pastOf x
+      last r (read b m) = refl
+      last r (refuse q) = refl
+
+      behind : (t : Bool) → ltb (at + 1) (length s) ≡ t
+          → pastOf {A = Labelled} (andThen (andThen (cond t (read (getD s (at + 1) 0) (at + 1 + 1)) (refuse (cut s))) (λ x m. read (asReceiver x) m)) (λ r m. andThen (block s m) (λ b k. read (record { handler = getD s at 0; receiver = r; block = b }) k)))
+          ≡ pastOf (block s (at + 2))
+      behind true e = let p : at + 1 + 1 ≡ at + 2 = omega arith in rw p (last (asReceiver (getD s (at + 1) 0)) (block s (at + 2)))
+      behind false e =
+          let l = ltb-false (at + 1) (length s) e in
+          sym (ap pastOf (block-law s (at + 2) ∙ ap (λ o. blockFrom s (at + 2) o (block s)) (operation-past s (at + 2) (omega arith))))
+
+      by : (t : Bool)
+          → pastOf {A = Labelled} (andThen (cond t (andThen (byte s (at + 1)) (λ x m. read (asReceiver x) m)) (read none (at + 1))) (λ r m. andThen (block s m) (λ b k. read (record { handler = getD s at 0; receiver = r; block = b }) k)))
+          ≡ pastOf (block s (at + cond t 2 1))
+      by true = behind (ltb (at + 1) (length s)) refl
+      by false = last none (block s (at + 1))
+
+-- The bytes before a labelled block's first operation, by the version.
+module _ {version : ℕ} where
+  pub before-two : version ≡ 2 → bytesBefore version ≡ 2
+  unfolding bytesBefore
+  before-two e = rw (eq-eqb version 2 e)
+
+  pub before-one : version ≢ 2 → bytesBefore version ≡ 1
+  unfolding bytesBefore
+  before-one n = rw (ne-eqb version 2 n)
+
+pub before-bounds : (version : ℕ) → (1 ≤ bytesBefore version) × (bytesBefore version ≤ 2)
+unfolding bytesBefore
+before-bounds version = by (eqb version 2)
+  where
+    by : (t : Bool) → (1 ≤ cond t 2 1) × (cond t 2 1 ≤ 2)
+    by true = (omega arith, omega arith)
+    by false = (omega arith, omega arith)
 
 -- A heading.
 module _ (s : List ℕ) (at : ℕ) where
@@ -200,7 +242,7 @@ module _ (s : List ℕ) (at : ℕ) where
       (go (h .heading) (b .what) (many (h .heading .blocks) labelled s next) ∙ ap (λ (k : ℕ). pastOf (many k labelled s next)) (h .blocks))
     where
       go : (h : Heading) (b : Block) (x : Parsed (List Labelled))
-          → pastOf {A = Function} (andThen x (λ bs m. read (record { params = h .params; locals = h .locals; entry = b; blocks = bs }) m)) ≡ pastOf x
+          → pastOf {A = Function} (andThen x (λ bs m. read (record { version = versionOf s; params = h .params; locals = h .locals; entry = b; blocks = bs }) m)) ≡ pastOf x
       go h b (read bs m) = refl
       go h b (refuse r) = refl
 

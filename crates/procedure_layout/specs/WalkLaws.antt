@@ -2,6 +2,7 @@
 use Prim.Native.Nat.{ℕ, zero, suc, _+_, _≤_, _<_}
 use mathlib.Core.Path.{_≡_, refl, sym, ap, _∙_}
 use mathlib.Core.List.{List}
+use mathlib.Core.Option.{none}
 use native.Mathlib.Omega.{arith}
 use lib.ListN.{length, getD}
 use Rattle.parsing.specs.Fields.{cut, valueAt}
@@ -13,7 +14,7 @@ use Rattle.procedure_operations.specs.Operation.{operationAt}
 use Rattle.procedure_layout.specs.Layout.{walkN, walk, blockFrom, before, argumentsAt, block}
 use Rattle.procedure_layout.specs.Rest.{restFrom, restAt}
 use Rattle.procedure_operations.specs.OperationLaws.{operation-past}
-use Rattle.procedure_operations.specs.ViewLaws.{View, isConstant, isCopy, isDifference, isCall, isGoto, isReturn, isBranch, isRaise, isRefused, view}
+use Rattle.procedure_operations.specs.ViewLaws.{View, isConstant, isCopy, isDifference, isCall, isGoto, isReturn, isBranch, isRaise, isRaiseValue, isRefused, view}
 
 -- An operation makes of what follows it nothing but what it makes of the walk from its own end.
 pub record Local (s : List ℕ) {A : Type 0} (step : ℕ → Operation → (ℕ → A) → A) (stop : A) : Type 0 where
@@ -43,13 +44,14 @@ module _ (s : List ℕ) where
       same at (isReturn e h) k l f = refl
       same at (isBranch e h) k l f = refl
       same at (isRaise e h) k l f = refl
+      same at (isRaiseValue e h v) k l f = refl
       same at (isRefused r) k l f = refl
 
   pub block-law : (at : ℕ) → block s at ≡ blockFrom s at (operationAt s at) (block s)
   unfolding block
   block-law at = walk-law s (blockFrom s) (refuse (cut s)) block-local at
 
-  rest-local : Local s (restFrom s) raise
+  rest-local : Local s (restFrom s) (raise none)
   rest-local = record { same = same; ends = λ at k. refl }
     where
       same : (at : ℕ) {o : Operation} → View s at o → (k l : ℕ → Block) → ((m : ℕ) → at < m → k m ≡ l m) → restFrom s at o k ≡ restFrom s at o l
@@ -61,9 +63,10 @@ module _ (s : List ℕ) where
       same at (isReturn e h) k l f = refl
       same at (isBranch e h) k l f = refl
       same at (isRaise e h) k l f = refl
+      same at (isRaiseValue e h v) k l f = refl
       same at (isRefused r) k l f = refl
 
   -- The rest of a block at an offset, by cases on the operation read there.
   pub rest-law : (at : ℕ) → restAt s at ≡ restFrom s at (operationAt s at) (restAt s)
   unfolding restAt
-  rest-law at = walk-law s (restFrom s) raise rest-local at
+  rest-law at = walk-law s (restFrom s) (raise none) rest-local at

@@ -7,7 +7,8 @@ use procedure_operations::operation;
 use procedure_operations::operation::Operation;
 ghost use mathlib.Core.Path.{_≡_};
 ghost use Rattle.parsing.specs.Parser.{pastOf, many};
-ghost use Rattle.procedure_layout.specs.Layout.{block, labelled, heading, function, program};
+ghost use Rattle.parsing.specs.Fields.{versionOf};
+ghost use Rattle.procedure_layout.specs.Layout.{block, bytesBefore, labelled, heading, function, program};
 ghost use Rattle.procedure_layout.specs.After.{afterOf, blocksOf};
 
 // "15 file above its limit (32,768 ..)."
@@ -38,6 +39,7 @@ pub fn after_of(o: Operation) -> After
         Operation::Return { next, .. } => After::Ended(next),
         Operation::Branch { next, .. } => After::Ended(next),
         Operation::Raise { next } => After::Ended(next),
+        Operation::RaiseValue { next, .. } => After::Ended(next),
         Operation::Refused(r) => After::Halted(r),
     }
 }
@@ -62,7 +64,14 @@ pub fn block_end(file: &[u8], start: usize) -> Scan
     }
 }
 
-// The end of a labelled block: its handler byte, then its operations.
+// The bytes before a labelled block's first operation: its handler byte, and in version 2 its receiver (document 02, Slip 7).
+pub fn bytes_before(file: &[u8]) -> usize
+    ensures { λ r. ⌜ r ≡ bytesBefore (versionOf (now (file .entry))) ⌝ }
+{
+    if parsing::version_of(file) == 2 { 2 } else { 1 }
+}
+
+// The end of a labelled block: its handler byte, its receiver, then its operations.
 fn labelled_end(file: &[u8], at: usize) -> Scan
     ensures { λ r. ⌜ r ≡ pastOf (labelled (now (file .entry)) at) ⌝ }
 {
@@ -72,7 +81,7 @@ fn labelled_end(file: &[u8], at: usize) -> Scan
             place: file.len(),
         });
     }
-    block_end(file, at + 1)
+    block_end(file, at + bytes_before(file))
 }
 
 // The end of n labelled blocks.

@@ -22,10 +22,10 @@ blockThere P f l =
 unfoldable pub lookupOf : List ℕ → ℕ → ℕ → Verdict
 lookupOf s f l = orElse (checkOf s) (blockThere (programOf s) f l)
 
--- The writing of the block with a label, handler byte included.
+-- The writing of the block with a label, handler byte included, and in version 2 its receiver (document 02, Slip 7).
 abbrev pub stretch : Function → ℕ → List ℕ
 stretch F zero = blockBytes (F .entry)
-stretch F (suc l) = labelledBytes (getD (F .blocks) l noLabelled)
+stretch F (suc l) = labelledBytes (F .version) (getD (F .blocks) l noLabelled)
 
 -- "every refusal gives an empty stretch."
 abbrev pub stretchBy : Verdict → List ℕ → List ℕ

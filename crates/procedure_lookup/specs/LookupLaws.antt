@@ -1,29 +1,31 @@
 -- Laws of finding a block, as the functions meet them.
 use Prim.Native.Nat.{ℕ, zero, suc, _-_, _≤_, _<_}
-use mathlib.Core.Path.{_≡_, refl, sym, ap, ap₂, _∙_}
+use mathlib.Core.Path.{_≡_, refl, sym, ap, ap₂, _∙_, subst}
 use mathlib.Core.Bool.{Bool, true, false, cond}
 use mathlib.Core.List.{List, []}
 use native.Mathlib.Omega.{arith}
 use borrow.Author.Tests.{leb-true, le-leb, lt-leb, ltb-true, lt-ltb, le-ltb}
 use lib.Dec.{leb, ltb}
-use lib.ListN.{length, take, drop}
+use lib.ListN.{length, getD, take, drop}
 use lib.Seq.{take-at}
 use Rattle.parsing.specs.declared.Refusal.{Refusal}
 use Rattle.parsing.specs.declared.Checked.{Checked}
 use Rattle.parsing.specs.Bytes.{Bytes}
 use Rattle.parsing.specs.ParserLaws.{impossible}
 use Rattle.parsing.specs.Parser.{Verdict, accepted, refused, orElse, verdictOf, refusal}
-use Rattle.parsing.specs.BytesAtLaws.{BytesAt, bytes-at-cons}
+use Rattle.parsing.specs.BytesAtLaws.{BytesAt, bytes-at-cons, bytes-at-join}
+use Rattle.parsing.specs.Fields.{versionOf}
 use Rattle.semantics.specs.Program.{Program, functionOf}
-use Rattle.procedure_layout.specs.Layout.{block}
+use Rattle.procedure_layout.specs.Layout.{block, bytesBefore}
+use Rattle.procedure_names.specs.Writing.{labelledBytes}
 use Rattle.procedure_layout.specs.After.{endOf}
 use Rattle.procedure_file.specs.Check.{checkOf, programOf}
-use Rattle.procedure_file.specs.Places.{labelPlace, startOf}
+use Rattle.procedure_file.specs.Places.{labelPlace, startOf, noLabelled}
 use Rattle.procedure_file.specs.Loaded.{Laid}
 use Rattle.procedure_file.specs.AcceptedLaws.{laid-reads, passed, laid-by}
 use Rattle.procedure_file.specs.WrittenLaws.{bytes-at-block}
-use Rattle.procedure_file.specs.PlacesLaws.{block-inside, start-at, label-at}
-use Rattle.procedure_file.specs.TableLaws.{end-is}
+use Rattle.procedure_file.specs.PlacesLaws.{block-inside, version-is, start-at, label-at}
+use Rattle.procedure_file.specs.TableLaws.{end-is, start-behind}
 use Rattle.procedure_lookup.specs.declared.Place.the-variants.{At, Nowhere}
 use Rattle.procedure_lookup.specs.Lookup.{blockThere, lookupOf, stretch, stretchBy, stretchOf, stretchStart, placeBy, placeOf, partAt}
 
@@ -48,12 +50,12 @@ module _ (s : List ℕ) (L : Laid s) (f l : ℕ) where
       pub find-entry : l ≡ 0 → At x to ≡ placeBy (blockThere P f l) P f l
       find-entry z = found 0 x (sym z) (start ∙ ap (startOf P f) z)
 
-      pub find-labelled : (l ≡ 0 → ⊥) → At (x - 1) to ≡ placeBy (blockThere P f l) P f l
-      find-labelled n = found l (x - 1) refl (ap (λ (y : ℕ). y - 1) start ∙ before l n)
+      pub find-labelled : (b : ℕ) → b ≡ bytesBefore (versionOf s) → (l ≡ 0 → ⊥) → At (x - b) to ≡ placeBy (blockThere P f l) P f l
+      find-labelled b e n = found l (x - b) refl (ap (λ (y : ℕ). y - b) start ∙ before l n)
         where
-          before : (k : ℕ) → (k ≡ 0 → ⊥) → startOf P f k - 1 ≡ stretchStart P f k
+          before : (k : ℕ) → (k ≡ 0 → ⊥) → startOf P f k - b ≡ stretchStart P f k
           before zero m = absurd (m refl)
-          before (suc k) m = omega arith
+          before (suc k) m = omega (arith, e, start-behind s L f there k)
 
 -- After the file's checks.
 module _ (s : List ℕ) (f l : ℕ) where
@@ -103,8 +105,13 @@ module _ (s : List ℕ) (f l : ℕ) where
       let b = start-at s (L .bytes) (programOf s) (laid-reads L) f h 0 m in
       (bytes-at-block s (L .bytes) b, block-inside s b .1)
   stretch-bytes-at L (suc k) h m =
-      let B = label-at s (L .bytes) (programOf s) (laid-reads L) f h k m in
-      (rw (B .handlerIs) (bytes-at-cons s (B .inside) (bytes-at-block s (L .bytes) (B .block))), block-inside s (B .block) .1)
+      let P = programOf s in
+      let B = label-at s (L .bytes) P (laid-reads L) f h k m in
+      let b : BytesAt s (labelPlace P f k) (labelPlace P f (suc k)) (labelledBytes (versionOf s) (getD (functionOf P f .blocks) k noLabelled)) =
+      rw (B .handlerIs) (bytes-at-cons s (B .inside) (bytes-at-join s (B .receives .bytes) (bytes-at-block s (L .bytes) (B .block)))) in (
+        subst (λ (v : ℕ). BytesAt s (labelPlace P f k) (labelPlace P f (suc k)) (labelledBytes v (getD (functionOf P f .blocks) k noLabelled))) (sym (version-is s (L .bytes) P (laid-reads L) f h)) b,
+        block-inside s (B .block) .1,
+      )
 
   pub record Stretch (a b : ℕ) : Type 0 where
     pub order : a ≤ b

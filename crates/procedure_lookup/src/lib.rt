@@ -5,6 +5,7 @@ use parsing::Refusal;
 use parsing::refusals;
 use procedure_file::check;
 use procedure_file::table;
+use procedure_layout::layout;
 ghost use mathlib.Core.Path.{_≡_};
 ghost use Rattle.parsing.specs.Parser.{verdictOf};
 ghost use Rattle.procedure_file.specs.Check.{programOf};
@@ -41,7 +42,8 @@ fn find(file: &[u8], starts: &[u16; 2048], f: usize, l: usize) -> Place
     if l == 0 {
         return Place::At { from: start, to };
     }
-    let from = start - 1;
+    let before = layout::bytes_before(file);
+    let from = start - before;
     Place::At { from, to }
 }
 
@@ -58,7 +60,7 @@ fn place_of(file: &[u8], f: u8, label: u8) -> Place
     }
 }
 
-// The stretch of the lent file that a block fills, handler byte included; label 0 is the entry block. Empty where it is refused.
+// The stretch of the lent file that a block fills, handler byte and receiver included; label 0 is the entry block. Empty where it is refused.
 // It is the part of the file at the block's place, and these bytes are the writing of the block.
 pub fn block(file: &[u8], f: u8, label: u8) -> &[u8]
     ensures { λ r. ⌜ now r ≡ partAt (now (file .entry)) (placeOf (now (file .entry)) f label) ⌝ }

@@ -5,3 +5,4 @@ pub mod OperationNames
 -- Laws.
 pub mod NamesLaws
 pub mod NamedLaws
+pub mod ReceiverLaws

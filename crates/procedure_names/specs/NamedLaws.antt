@@ -13,17 +13,17 @@ use Rattle.parsing.specs.ParserLaws.{impossible}
 use Rattle.parsing.specs.Parser.{Verdict, accepted, refused, orElse, verdictOf}
 use Rattle.semantics.specs.Program.{Block}
 use Rattle.procedure_operations.specs.declared.operation.Operation.{Operation}
-use Rattle.procedure_operations.specs.declared.operation.Operation.the-variants.{Constant, Copy, Difference, Call, Goto, Return, Branch, Raise, Refused}
+use Rattle.procedure_operations.specs.declared.operation.Operation.the-variants.{Constant, Copy, Difference, Call, Goto, Return, Branch, Raise, RaiseValue, Refused}
 use Rattle.procedure_layout.specs.declared.layout.After.{After}
 use Rattle.procedure_layout.specs.declared.layout.After.the-variants.{Onward, Ended, Halted}
 use Rattle.procedure_operations.specs.Operation.{operationAt}
-use Rattle.procedure_layout.specs.Layout.{argumentsAt}
+use Rattle.procedure_layout.specs.Layout.{argumentsAt, asReceiver}
 use Rattle.procedure_layout.specs.Rest.{restFrom, restAt}
 use Rattle.procedure_layout.specs.After.{afterOf}
-use Rattle.procedure_names.specs.Names.{Name, variable, label, handler, function, arity, arguments, blockNames, firstWrong}
+use Rattle.procedure_names.specs.Names.{Name, variable, label, handler, receiver, function, arity, arguments, blockNames, firstWrong}
 use Rattle.procedure_names.specs.OperationNames.{operationNames}
 use Rattle.procedure_operations.specs.OperationLaws.{operation-past}
-use Rattle.procedure_operations.specs.ViewLaws.{View, isConstant, isCopy, isDifference, isCall, isGoto, isReturn, isBranch, isRaise, isRefused, view}
+use Rattle.procedure_operations.specs.ViewLaws.{View, isConstant, isCopy, isDifference, isCall, isGoto, isReturn, isBranch, isRaise, isRaiseValue, isRefused, view}
 use Rattle.procedure_layout.specs.WalkLaws.{rest-law}
 use Rattle.procedure_names.specs.NamesLaws.{first-append}
 
@@ -49,6 +49,14 @@ module _ (v place x : ℕ) where
 
   pub handler-wrong : v < x → refused 8 place ≡ firstWrong (handler v place x ∷ [])
   handler-wrong h = rw (lt-leb x v h)
+
+-- A receiver, by its byte.
+module _ (v place x : ℕ) where
+  pub receiver-none : x ≡ 255 → accepted ≡ firstWrong (receiver v place (asReceiver x) ∷ [])
+  receiver-none e = rw (eq-eqb x 255 e)
+
+  pub receiver-some : (x ≡ 255 → ⊥) → firstWrong (variable v place x ∷ []) ≡ firstWrong (receiver v place (asReceiver x) ∷ [])
+  receiver-some n = rw (ne-eqb x 255 n)
 
 -- A callee and its argument count.
 module _ (ps : List ℕ) (f c g n : ℕ) where
@@ -116,6 +124,7 @@ Room s at (Goto l next) = at + 2 ≤ length s
 Room s at (Return x next) = at + 2 ≤ length s
 Room s at (Branch y z l m next) = at + 5 ≤ length s
 Room s at (Raise next) = at + 1 ≤ length s
+Room s at (RaiseValue x next) = at + 2 ≤ length s
 Room s at (Refused r) = Unit {0}
 
 room : (s : List ℕ) (at : ℕ) {o : Operation} → View s at o → Room s at o
@@ -127,6 +136,7 @@ room s at (isGoto e h) = h
 room s at (isReturn e h) = h
 room s at (isBranch e h) = h
 room s at (isRaise e h) = h
+room s at (isRaiseValue e h w) = h
 room s at (isRefused r) = tt
 
 pub call-room : (s : List ℕ) (at x g n next : ℕ) → operationAt s at ≡ Call x g n next → at + 4 + n ≤ length s
@@ -167,6 +177,7 @@ module _ (ps : List ℕ) (v n : ℕ) (s : List ℕ) where
       go (isReturn a h) e = impossible (cc)
       go (isBranch a h) e = impossible (cc)
       go (isRaise a h) e = impossible (cc)
+      go (isRaiseValue a h w) e = impossible (cc)
       go (isRefused r) e = impossible (cc)
 
   pub block-on : (at next : ℕ) → afterOf (operationAt s at) ≡ Onward next
@@ -183,6 +194,7 @@ module _ (ps : List ℕ) (v n : ℕ) (s : List ℕ) where
   last at (isReturn a h) e = refl
   last at (isBranch a h) e = refl
   last at (isRaise a h) e = refl
+  last at (isRaiseValue a h w) e = refl
   last at (isRefused r) e = refl
 
   pub block-last : (at : ℕ) → ((next : ℕ) → afterOf (operationAt s at) ≡ Onward next → ⊥)
@@ -206,6 +218,7 @@ module _ (ps : List ℕ) (v n : ℕ) (s : List ℕ) where
       wrong (isReturn a h) e = e
       wrong (isBranch a h) e = e
       wrong (isRaise a h) e = e
+      wrong (isRaiseValue a h w) e = e
       wrong (isRefused r) e = e
 
   -- A turn of the loop over a block.

@@ -1,12 +1,14 @@
 -- The names in a procedure file in reading order, each with its place, and whether it is right (document 01, refusals 7 to 10).
 use Prim.Native.Nat.{ℕ, _+_}
-use mathlib.Core.Bool.{Bool, cond, false}
+use mathlib.Core.Bool.{Bool, cond, true, false}
 use mathlib.Core.List.{List, [], _∷_, _++_, map}
+use mathlib.Core.Option.{Option, none, some}
 use lib.Dec.{leb, ltb, eqb}
 use lib.ListN.{length, getD}
 use Rattle.semantics.specs.Program.{Variable, Label, Handler, FunctionNumber, Block, constant, copy, difference, call, goto, return, branch, raise, Labelled, Function, Program, variables}
 use Rattle.parsing.specs.Refusals.{missingVariable, missingLabel, missingFunction, calleeArity}
 use Rattle.parsing.specs.Parser.{Verdict, accepted, refused}
+use Rattle.procedure_layout.specs.Layout.{bytesBefore}
 use Rattle.procedure_names.specs.Writing.{blockBytes, labelledBytes, functionBytes}
 
 -- A name that is not right is refused with its number, at its place.
@@ -25,6 +27,11 @@ label n place l = record { number = missingLabel; place = place; right = cond (l
 
 abbrev pub handler : ℕ → ℕ → Handler → Name
 handler n place h = record { number = missingLabel; place = place; right = leb h n }
+
+-- "7 no such variable", of a receiver (document 02, Slip 7), where there is one.
+abbrev pub receiver : ℕ → ℕ → Option Variable → Name
+receiver v place none = record { number = missingVariable; place = place; right = true }
+receiver v place (some x) = variable v place x
 
 -- "9 no such function", where the functions have these numbers of parameters.
 abbrev pub function : List ℕ → ℕ → FunctionNumber → Name
@@ -51,20 +58,21 @@ blockNames ps v n at (goto l) = label n (at + 1) l ∷ []
 blockNames ps v n at (return x) = variable v (at + 1) x ∷ []
 blockNames ps v n at (branch y z l m) =
     variable v (at + 1) y ∷ variable v (at + 2) z ∷ label n (at + 3) l ∷ label n (at + 4) m ∷ []
-blockNames ps v n at raise = []
+blockNames ps v n at (raise none) = []
+blockNames ps v n at (raise (some x)) = variable v (at + 1) x ∷ []
 
--- The names of labelled blocks, one after the other from an offset on.
-abbrev pub labelledNames : List ℕ → ℕ → ℕ → ℕ → List Labelled → List Name
-labelledNames ps v n at [] = []
-labelledNames ps v n at (B ∷ more) =
-    handler n at (B .handler) ∷
-    (blockNames ps v n (at + 1) (B .block) ++ labelledNames ps v n (at + length (labelledBytes B)) more)
+-- The names of labelled blocks of a version, one after the other from an offset on.
+abbrev pub labelledNames : ℕ → List ℕ → ℕ → ℕ → ℕ → List Labelled → List Name
+labelledNames version ps v n at [] = []
+labelledNames version ps v n at (B ∷ more) =
+    handler n at (B .handler) ∷ receiver v (at + 1) (B .receiver) ∷
+    (blockNames ps v n (at + bytesBefore version) (B .block) ++ labelledNames version ps v n (at + length (labelledBytes version B)) more)
 
 -- The names of functions, one after the other from an offset on.
 abbrev pub functionNames : List ℕ → ℕ → Function → List Name
 functionNames ps at F =
     blockNames ps (variables F) (length (F .blocks)) (at + 3) (F .entry) ++
-    labelledNames ps (variables F) (length (F .blocks)) (at + 3 + length (blockBytes (F .entry))) (F .blocks)
+    labelledNames (F .version) ps (variables F) (length (F .blocks)) (at + 3 + length (blockBytes (F .entry))) (F .blocks)
 
 abbrev pub functionsNames : List ℕ → ℕ → List Function → List Name
 functionsNames ps at [] = []

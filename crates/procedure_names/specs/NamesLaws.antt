@@ -3,16 +3,18 @@ use Prim.Native.Nat.{ℕ, _+_, _<_}
 use mathlib.Core.Path.{_≡_, refl, sym, _∙_}
 use mathlib.Core.Bool.{Bool, true, false, cond}
 use mathlib.Core.List.{List, [], _∷_, _++_}
+use mathlib.Core.Option.{Option, none, some}
 use native.Mathlib.Omega.{arith}
 use borrow.Author.Tests.{leb-true, le-leb, ltb-true, lt-ltb, eqb-true, eq-eqb}
 use lib.Dec.{leb}
 use lib.ListN.{length, getD, length-map, List·getD-map}
 use Rattle.parsing.specs.ParserLaws.{impossible}
 use Rattle.parsing.specs.Parser.{Verdict, accepted, refused, orElse}
-use Rattle.semantics.specs.Program.{Block, constant, copy, difference, call, goto, return, branch, raise, Labelled, Function, Program, variables, noFunction, functionOf}
-use Rattle.semantics.specs.WellFormed.{All, IsLabel, WellFormedBlock, WellFormedLabelled, WellFormedFunction, WellFormed}
+use Rattle.semantics.specs.Program.{Variable, Block, constant, copy, difference, call, goto, return, branch, raise, Labelled, Function, Program, variables, noFunction, functionOf}
+use Rattle.semantics.specs.WellFormed.{All, IsLabel, MayName, WellFormedBlock, WellFormedLabelled, WellFormedFunction, WellFormed}
+use Rattle.procedure_layout.specs.Layout.{bytesBefore}
 use Rattle.procedure_names.specs.Writing.{blockBytes, labelledBytes, functionBytes}
-use Rattle.procedure_names.specs.Names.{Name, variable, label, handler, function, arity, arguments, blockNames, labelledNames, functionsNames, arities, namesOf, firstWrong}
+use Rattle.procedure_names.specs.Names.{Name, variable, label, handler, receiver, function, arity, arguments, blockNames, labelledNames, functionsNames, arities, namesOf, firstWrong}
 
 pub first-append : (xs ys : List Name) → firstWrong (xs ++ ys) ≡ orElse (firstWrong xs) (firstWrong ys)
 first-append [] ys = refl
@@ -56,6 +58,15 @@ label-is n l e = go (leb 1 l) (leb l n) refl refl e
     go true true a b w = (leb-true 1 l a, leb-true l n b)
     go true false a b w = impossible (cc)
     go false u a b w = impossible (cc)
+
+-- A receiver is right where it may be named.
+receiver-right : (v place : ℕ) (r : Option Variable) → MayName v r → receiver v place r .right ≡ true
+receiver-right v place none h = refl
+receiver-right v place (some x) h = lt-ltb x v h
+
+receiver-formed : (v place : ℕ) (r : Option Variable) → receiver v place r .right ≡ true → MayName v r
+receiver-formed v place none e = tt
+receiver-formed v place (some x) e = ltb-true x v e
 
 module _ (v : ℕ) where
   arguments-right : (ys : List ℕ) (place : ℕ) → All (λ y. y < v) ys → firstWrong (arguments v place ys) ≡ accepted
@@ -104,7 +115,8 @@ module _ (P : Program) where
         (cons-right (variable v (at + 2) z) (label n (at + 3) l ∷ label n (at + 4) m ∷ []) (lt-ltb z v (h .1))
         (cons-right (label n (at + 3) l) (label n (at + 4) m ∷ []) (label-right n l (h .2))
         (cons-right (label n (at + 4) m) [] (label-right n m (h .3)) refl)))
-    block-right raise at h = refl
+    block-right (raise none) at h = refl
+    block-right (raise (some x)) at h = cons-right (variable v (at + 1) x) [] (lt-ltb x v h) refl
 
     pub block-formed : (b : Block) (at : ℕ) → firstWrong (blockNames (arities P) v n at b) ≡ accepted → WellFormedBlock P v n b
     block-formed (constant x i b) at e =
@@ -139,22 +151,34 @@ module _ (P : Program) where
         let p = one-right (label n (at + 3) l) (label n (at + 4) m ∷ []) (q .1) in
         let o = one-right (label n (at + 4) m) [] (p .1) in
         (ltb-true y v (r .0), ltb-true z v (q .0), label-is n l (p .0), label-is n m (o .0))
-    block-formed raise at e = tt
+    block-formed (raise none) at e = tt
+    block-formed (raise (some x)) at e = ltb-true x v (one-right (variable v (at + 1) x) [] e .0)
 
-    labels-right : (Bs : List Labelled) (at : ℕ) → All (WellFormedLabelled P v n) Bs → firstWrong (labelledNames (arities P) v n at Bs) ≡ accepted
-    labels-right [] at h = refl
-    labels-right (B ∷ more) at h =
-        let m = at + length (labelledBytes B) in
-        cons-right (handler n at (B .handler)) (names (at + 1) (B .block) ++ labelledNames (arities P) v n m more) (le-leb (B .handler) n (h .0 .handler))
-        (append-right (names (at + 1) (B .block)) (labelledNames (arities P) v n m more) (block-right (B .block) (at + 1) (h .0 .block)) (labels-right more m (h .1)))
+    module _ (version : ℕ) where
+      labels-right : (Bs : List Labelled) (at : ℕ) → All (WellFormedLabelled P v n) Bs → firstWrong (labelledNames version (arities P) v n at Bs) ≡ accepted
+      labels-right [] at h = refl
+      labels-right (B ∷ more) at h =
+          let k = at + bytesBefore version in
+          let l = labelledNames version (arities P) v n (at + length (labelledBytes version B)) more in
+          cons-right (handler n at (B .handler)) (receiver v (at + 1) (B .receiver) ∷ (names k (B .block) ++ l)) (le-leb (B .handler) n (h .0 .handler))
+          (cons-right (receiver v (at + 1) (B .receiver)) (names k (B .block) ++ l) (receiver-right v (at + 1) (B .receiver) (h .0 .receiver))
+          (append-right (names k (B .block)) l (block-right (B .block) k (h .0 .block)) (labels-right more (at + length (labelledBytes version B)) (h .1))))
 
-    labels-formed : (Bs : List Labelled) (at : ℕ) → firstWrong (labelledNames (arities P) v n at Bs) ≡ accepted → All (WellFormedLabelled P v n) Bs
-    labels-formed [] at e = tt
-    labels-formed (B ∷ more) at e =
-        let m = at + length (labelledBytes B) in
-        let r = one-right (handler n at (B .handler)) (names (at + 1) (B .block) ++ labelledNames (arities P) v n m more) e in
-        let q = append-split (names (at + 1) (B .block)) (labelledNames (arities P) v n m more) (r .1) in
-        (record { handler = leb-true (B .handler) n (r .0); block = block-formed (B .block) (at + 1) (q .0) }, labels-formed more m (q .1))
+      labels-formed : (Bs : List Labelled) (at : ℕ) → firstWrong (labelledNames version (arities P) v n at Bs) ≡ accepted → All (WellFormedLabelled P v n) Bs
+      labels-formed [] at e = tt
+      labels-formed (B ∷ more) at e =
+          let k = at + bytesBefore version in
+          let l = labelledNames version (arities P) v n (at + length (labelledBytes version B)) more in
+          let r = one-right (handler n at (B .handler)) (receiver v (at + 1) (B .receiver) ∷ (names k (B .block) ++ l)) e in
+          let p = one-right (receiver v (at + 1) (B .receiver)) (names k (B .block) ++ l) (r .1) in
+          let q = append-split (names k (B .block)) l (p .1) in (
+            record {
+              handler = leb-true (B .handler) n (r .0);
+              receiver = receiver-formed v (at + 1) (B .receiver) (p .0);
+              block = block-formed (B .block) k (q .0);
+            },
+            labels-formed more (at + length (labelledBytes version B)) (q .1),
+          )
 
   functions-right : (Fs : List Function) (at : ℕ) → All (WellFormedFunction P) Fs → firstWrong (functionsNames (arities P) at Fs) ≡ accepted
   functions-right [] at h = refl
@@ -162,9 +186,9 @@ module _ (P : Program) where
       let v = variables F in
       let n = length (F .blocks) in
       let e = blockNames (arities P) v n (at + 3) (F .entry) in
-      let l = labelledNames (arities P) v n (at + 3 + length (blockBytes (F .entry))) (F .blocks) in
+      let l = labelledNames (F .version) (arities P) v n (at + 3 + length (blockBytes (F .entry))) (F .blocks) in
       append-right (e ++ l) (functionsNames (arities P) (at + length (functionBytes F)) more)
-      (append-right e l (block-right v n (F .entry) (at + 3) (h .0 .entry)) (labels-right v n (F .blocks) (at + 3 + length (blockBytes (F .entry))) (h .0 .blocks)))
+      (append-right e l (block-right v n (F .entry) (at + 3) (h .0 .entry)) (labels-right v n (F .version) (F .blocks) (at + 3 + length (blockBytes (F .entry))) (h .0 .blocks)))
       (functions-right more (at + length (functionBytes F)) (h .1))
 
   functions-formed : (Fs : List Function) (at : ℕ) → firstWrong (functionsNames (arities P) at Fs) ≡ accepted → All (WellFormedFunction P) Fs
@@ -173,10 +197,10 @@ module _ (P : Program) where
       let v = variables F in
       let n = length (F .blocks) in
       let b = blockNames (arities P) v n (at + 3) (F .entry) in
-      let l = labelledNames (arities P) v n (at + 3 + length (blockBytes (F .entry))) (F .blocks) in
+      let l = labelledNames (F .version) (arities P) v n (at + 3 + length (blockBytes (F .entry))) (F .blocks) in
       let r = append-split (b ++ l) (functionsNames (arities P) (at + length (functionBytes F)) more) e in
       let q = append-split b l (r .0) in (
-        record { entry = block-formed v n (F .entry) (at + 3) (q .0); blocks = labels-formed v n (F .blocks) (at + 3 + length (blockBytes (F .entry))) (q .1) },
+        record { entry = block-formed v n (F .entry) (at + 3) (q .0); blocks = labels-formed v n (F .version) (F .blocks) (at + 3 + length (blockBytes (F .entry))) (q .1) },
         functions-formed more (at + length (functionBytes F)) (r .1),
       )
 

@@ -2,7 +2,7 @@
 use Prim.Native.Nat.{ℕ, _+_}
 use mathlib.Core.List.{List, [], _∷_}
 use Rattle.procedure_operations.specs.declared.operation.Operation.{Operation}
-use Rattle.procedure_operations.specs.declared.operation.Operation.the-variants.{Constant, Copy, Difference, Call, Goto, Return, Branch, Raise, Refused}
+use Rattle.procedure_operations.specs.declared.operation.Operation.the-variants.{Constant, Copy, Difference, Call, Goto, Return, Branch, Raise, RaiseValue, Refused}
 use Rattle.procedure_layout.specs.Layout.{argumentsAt}
 use Rattle.procedure_names.specs.Names.{Name, variable, label, function, arity, arguments}
 
@@ -18,4 +18,5 @@ operationNames ps v n s at (Return x next) = variable v (at + 1) x ∷ []
 operationNames ps v n s at (Branch y z l m next) =
     variable v (at + 1) y ∷ variable v (at + 2) z ∷ label n (at + 3) l ∷ label n (at + 4) m ∷ []
 operationNames ps v n s at (Raise next) = []
+operationNames ps v n s at (RaiseValue x next) = variable v (at + 1) x ∷ []
 operationNames ps v n s at (Refused r) = []

@@ -17,10 +17,10 @@ ghost use mathlib.Core.List.{[], _∷_};
 ghost use Prim.Native.Nat.{_+_, _≤_, _<_};
 ghost use lib.ListN.{length, getD};
 ghost use Rattle.parsing.specs.Parser.{verdictOf};
-ghost use Rattle.procedure_layout.specs.Layout.{argumentsAt};
+ghost use Rattle.procedure_layout.specs.Layout.{argumentsAt, asReceiver};
 ghost use Rattle.procedure_operations.specs.Operation.{operationAt};
 ghost use Rattle.procedure_layout.specs.Rest.{restAt};
-ghost use Rattle.procedure_names.specs.Names.{variable, label, function, arity, arguments, blockNames, firstWrong};
+ghost use Rattle.procedure_names.specs.Names.{variable, label, receiver, function, arity, arguments, blockNames, firstWrong};
 ghost use Rattle.procedure_names.specs.OperationNames.{operationNames};
 ghost use Rattle.procedure_operations.specs.declared.operation.Operation.the-variants.{Call};
 
@@ -34,6 +34,16 @@ fn variable_named(x: u8, variables: usize, place: usize) -> Checked
             place,
         }),
     }
+}
+
+// A receiver, by its byte (document 02, Slip 7).
+pub fn receiver_named(x: u8, variables: usize, place: usize) -> Checked
+    ensures { λ r. ⌜ verdictOf r ≡ firstWrong (receiver variables place (asReceiver x) ∷ []) ⌝ }
+{
+    if x == 255 {
+        return Checked::Accepted;
+    }
+    variable_named(x, variables, place)
 }
 
 fn label_named(l: u8, labels: usize, place: usize) -> Checked
@@ -215,6 +225,7 @@ fn operation_named(
             ..
         } => branch_named(at, left, right, least, other, variables, labels),
         Operation::Raise { .. } => Checked::Accepted,
+        Operation::RaiseValue { variable, .. } => variable_named(variable, variables, at + 1),
         Operation::Refused(_) => Checked::Accepted,
     }
 }

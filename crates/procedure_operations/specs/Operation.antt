@@ -1,4 +1,4 @@
--- The operation at an offset of a file (document 01, 'The procedure file'): "The operation byte decides among eight forms".
+-- The operation at an offset of a file (document 01, 'The procedure file'): "The operation byte decides among eight forms", in version 2 among nine (document 02, Slip 7).
 use Prim.Native.Nat.{ℕ, _+_}
 use mathlib.Core.Bool.{cond}
 use mathlib.Core.List.{List}
@@ -6,9 +6,9 @@ use lib.Dec.{leb, eqb}
 use lib.ListN.{length, getD, take, drop}
 use Rattle.parsing.specs.Refusals.{unknown}
 use Rattle.parsing.specs.Parser.{refusal}
-use Rattle.parsing.specs.Fields.{cut, valueAt}
+use Rattle.parsing.specs.Fields.{cut, versionOf, valueAt}
 use Rattle.procedure_operations.specs.declared.operation.Operation.{Operation}
-use Rattle.procedure_operations.specs.declared.operation.Operation.the-variants.{Constant, Copy, Difference, Call, Goto, Return, Branch, Raise, Refused}
+use Rattle.procedure_operations.specs.declared.operation.Operation.the-variants.{Constant, Copy, Difference, Call, Goto, Return, Branch, Raise, RaiseValue, Refused}
 
 -- An operation whose last byte stands before the offset `next`; else the file ends early.
 abbrev pub whole : List ℕ → ℕ → Operation → Operation
@@ -49,6 +49,10 @@ unfoldable pub branchAt : List ℕ → ℕ → Operation
 branchAt s at =
     whole s (at + 5) (Branch (getD s (at + 1) 0) (getD s (at + 2) 0) (getD s (at + 3) 0) (getD s (at + 4) 0) (at + 5))
 
+-- "Operation 9 raises a variable's value and ends its block" (document 02, Slip 7), in version 2; else "6 unknown operation".
+unfoldable pub raiseValueAt : List ℕ → ℕ → Operation
+raiseValueAt s at = cond (eqb (versionOf s) 2) (whole s (at + 2) (RaiseValue (getD s (at + 1) 0) (at + 2))) (Refused (refusal unknown at))
+
 -- "8 raise." "6 unknown operation."
 unfoldable pub endAt : List ℕ → ℕ → ℕ → Operation
 endAt s at number =
@@ -56,7 +60,8 @@ endAt s at number =
     (cond (eqb number 6) (returnAt s at)
     (cond (eqb number 7) (branchAt s at)
     (cond (eqb number 8) (Raise (at + 1))
-    (Refused (refusal unknown at)))))
+    (cond (eqb number 9) (raiseValueAt s at)
+    (Refused (refusal unknown at))))))
 
 unfoldable pub operationAt : List ℕ → ℕ → Operation
 operationAt s at =

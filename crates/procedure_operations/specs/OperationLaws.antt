@@ -4,12 +4,12 @@ use mathlib.Core.Path.{_≡_, refl, ap, _∙_}
 use mathlib.Core.Logic.{_≢_}
 use mathlib.Core.List.{List}
 use native.Mathlib.Omega.{arith}
-use borrow.Author.Tests.{le-leb, lt-leb, ne-eqb}
+use borrow.Author.Tests.{le-leb, lt-leb, eq-eqb, ne-eqb}
 use lib.ListN.{length, getD}
 use Rattle.parsing.specs.Parser.{refusal}
-use Rattle.parsing.specs.Fields.{cut, valueAt}
-use Rattle.procedure_operations.specs.declared.operation.Operation.the-variants.{Constant, Copy, Difference, Call, Goto, Return, Branch, Raise, Refused}
-use Rattle.procedure_operations.specs.Operation.{constantAt, copyAt, differenceAt, callAt, gotoAt, returnAt, branchAt, endAt, operationAt}
+use Rattle.parsing.specs.Fields.{cut, versionOf, valueAt}
+use Rattle.procedure_operations.specs.declared.operation.Operation.the-variants.{Constant, Copy, Difference, Call, Goto, Return, Branch, Raise, RaiseValue, Refused}
+use Rattle.procedure_operations.specs.Operation.{constantAt, copyAt, differenceAt, callAt, gotoAt, returnAt, branchAt, raiseValueAt, endAt, operationAt}
 
 -- Each operation, cut short and whole.
 module _ (s : List ℕ) (at : ℕ) where
@@ -61,6 +61,18 @@ module _ (s : List ℕ) (at : ℕ) where
   unfolding branchAt
   branch-in h = rw (le-leb (at + 5) (length s) h)
 
+  pub raise-value-unknown : versionOf s ≢ 2 → raiseValueAt s at ≡ Refused (refusal 6 at)
+  unfolding raiseValueAt
+  raise-value-unknown n = rw (ne-eqb (versionOf s) 2 n)
+
+  pub raise-value-cut : versionOf s ≡ 2 → length s < at + 2 → raiseValueAt s at ≡ Refused (cut s)
+  unfolding raiseValueAt
+  raise-value-cut v h = rw (eq-eqb (versionOf s) 2 v, lt-leb (at + 2) (length s) h)
+
+  pub raise-value-in : versionOf s ≡ 2 → at + 2 ≤ length s → raiseValueAt s at ≡ RaiseValue (getD s (at + 1) 0) (at + 2)
+  unfolding raiseValueAt
+  raise-value-in v h = rw (eq-eqb (versionOf s) 2 v, le-leb (at + 2) (length s) h)
+
   pub call-cut : length s < at + 4 → callAt s at ≡ Refused (cut s)
   unfolding callAt
   call-cut h = rw (lt-leb (at + 4) (length s) h)
@@ -92,9 +104,13 @@ module _ (s : List ℕ) (at n : ℕ) where
   unfolding endAt
   end-8 e = rw e
 
-  pub end-unknown : n ≢ 5 → n ≢ 6 → n ≢ 7 → n ≢ 8 → endAt s at n ≡ Refused (refusal 6 at)
+  pub end-9 : n ≡ 9 → endAt s at n ≡ raiseValueAt s at
   unfolding endAt
-  end-unknown a b c d = rw (ne-eqb n 5 a, ne-eqb n 6 b, ne-eqb n 7 c, ne-eqb n 8 d)
+  end-9 e = rw e
+
+  pub end-unknown : n ≢ 5 → n ≢ 6 → n ≢ 7 → n ≢ 8 → n ≢ 9 → endAt s at n ≡ Refused (refusal 6 at)
+  unfolding endAt
+  end-unknown a b c d e = rw (ne-eqb n 5 a, ne-eqb n 6 b, ne-eqb n 7 c, ne-eqb n 8 d, ne-eqb n 9 e)
 
 pub operation-past : (s : List ℕ) (at : ℕ) → length s ≤ at → operationAt s at ≡ Refused (cut s)
 unfolding operationAt
@@ -125,8 +141,8 @@ module _ (s : List ℕ) (at : ℕ) (inside : at < length s) where
         let n = getD s at 0 in
         rw (lt-leb (length s) at inside, ne-eqb n 1 a, ne-eqb n 2 b, ne-eqb n 3 c, ne-eqb n 4 d)
 
-    pub operation-unknown : getD s at 0 ≢ 5 → getD s at 0 ≢ 6 → getD s at 0 ≢ 7 → getD s at 0 ≢ 8 → operationAt s at ≡ Refused (refusal 6 at)
-    operation-unknown e f g h = rw operation-end (end-unknown s at (getD s at 0) e f g h)
+    pub operation-unknown : getD s at 0 ≢ 5 → getD s at 0 ≢ 6 → getD s at 0 ≢ 7 → getD s at 0 ≢ 8 → getD s at 0 ≢ 9 → operationAt s at ≡ Refused (refusal 6 at)
+    operation-unknown e f g h i = rw operation-end (end-unknown s at (getD s at 0) e f g h i)
 
 -- An operation that ends a block, at an offset.
 operation-ends : (s : List ℕ) (at k : ℕ) → at < length s → getD s at 0 ≡ k → 5 ≤ k → operationAt s at ≡ endAt s at k
@@ -161,3 +177,6 @@ module _ (s : List ℕ) (at : ℕ) where
 
   pub op-raise : getD s at 0 ≡ 8 → at + 1 ≤ length s → operationAt s at ≡ Raise (at + 1)
   op-raise e h = operation-ends s at 8 (omega arith) e (omega arith) ∙ end-8 s at 8 refl
+
+  pub op-raise-value : getD s at 0 ≡ 9 → at + 2 ≤ length s → versionOf s ≡ 2 → operationAt s at ≡ RaiseValue (getD s (at + 1) 0) (at + 2)
+  op-raise-value e h v = operation-ends s at 9 (omega arith) e (omega arith) ∙ end-9 s at 9 refl ∙ raise-value-in s at v h

@@ -3,7 +3,7 @@ use Prim.Native.Nat.{ℕ, _<_}
 use mathlib.Core.List.{List}
 use lib.ListN.{getD}
 use Rattle.procedure_operations.specs.declared.operation.Operation.{Operation}
-use Rattle.procedure_operations.specs.declared.operation.Operation.the-variants.{Constant, Copy, Difference, Call, Goto, Return, Branch, Raise, Refused}
+use Rattle.procedure_operations.specs.declared.operation.Operation.the-variants.{Constant, Copy, Difference, Call, Goto, Return, Branch, Raise, RaiseValue, Refused}
 use Rattle.procedure_operations.specs.Numbers.{maxFunctions, maxVariables}
 use Rattle.procedure_operations.specs.Operation.{argumentsAt}
 
@@ -18,4 +18,5 @@ NumbersInRange s at (Goto l next) = Unit {0}
 NumbersInRange s at (Return x next) = x < maxVariables
 NumbersInRange s at (Branch y z l m next) = (y < maxVariables) × (z < maxVariables)
 NumbersInRange s at (Raise next) = Unit {0}
+NumbersInRange s at (RaiseValue x next) = x < maxVariables
 NumbersInRange s at (Refused r) = Unit {0}

@@ -5,7 +5,7 @@ ghost use mathlib.Core.Path.{_≡_};
 ghost use lib.ListN.{length};
 ghost use Prim.Native.Nat.{_+_, _<_};
 ghost use Rattle.parsing.specs.Fields.{cut};
-ghost use Rattle.procedure_operations.specs.Operation.{operationAt, constantAt, copyAt, differenceAt, callAt, gotoAt, returnAt, branchAt, endAt};
+ghost use Rattle.procedure_operations.specs.Operation.{operationAt, constantAt, copyAt, differenceAt, callAt, gotoAt, returnAt, branchAt, raiseValueAt, endAt};
 
 // An operation as it stands in the file, with the offset past it. Its names are not judged here.
 pub enum Operation {
@@ -47,6 +47,10 @@ pub enum Operation {
         next: usize,
     },
     Raise {
+        next: usize,
+    },
+    RaiseValue {
+        variable: u8,
         next: usize,
     },
     Refused(Refusal),
@@ -176,7 +180,28 @@ fn branch_at(file: &[u8], at: usize) -> Operation
     }
 }
 
-// The operations that end a block, 5 to 8.
+// "Operation 9 raises a variable's value" (document 02, Slip 7), in version 2; in version 1 it is unknown.
+fn raise_value_at(file: &[u8], at: usize) -> Operation
+    requires { ⌜ at < length (now file) ⌝ }
+    ensures { λ r. ⌜ r ≡ raiseValueAt (now (file .entry)) at ⌝ }
+{
+    if parsing::version_of(file) != 2 {
+        return Operation::Refused(Refusal {
+            number: refusals::UNKNOWN,
+            place: at,
+        });
+    }
+    let next = at + 2;
+    if file.len() < next {
+        return cut(file);
+    }
+    Operation::RaiseValue {
+        variable: file[at + 1],
+        next,
+    }
+}
+
+// The operations that end a block, 5 to 8 and in version 2 9.
 fn end_at(file: &[u8], at: usize, number: u8) -> Operation
     requires { ⌜ at < length (now file) ⌝ }
     ensures { λ r. ⌜ r ≡ endAt (now (file .entry)) at number ⌝ }
@@ -186,6 +211,7 @@ fn end_at(file: &[u8], at: usize, number: u8) -> Operation
         6 => return_at(file, at),
         7 => branch_at(file, at),
         8 => Operation::Raise { next: at + 1 },
+        9 => raise_value_at(file, at),
         _ => Operation::Refused(Refusal {
             number: refusals::UNKNOWN,
             place: at,
@@ -193,7 +219,7 @@ fn end_at(file: &[u8], at: usize, number: u8) -> Operation
     }
 }
 
-// "The operation byte decides among eight forms."
+// "The operation byte decides among eight forms", in version 2 among nine.
 pub fn operation_at(file: &[u8], at: usize) -> Operation
     ensures { λ r. ⌜ r ≡ operationAt (now (file .entry)) at ⌝ }
 {
@@ -206,7 +232,7 @@ pub fn operation_at(file: &[u8], at: usize) -> Operation
         2 => copy_at(file, at),
         3 => difference_at(file, at),
         4 => call_at(file, at),
-        5..=8 => end_at(file, at, number),
+        5..=9 => end_at(file, at, number),
         _ => Operation::Refused(Refusal {
             number: refusals::UNKNOWN,
             place: at,

@@ -1,9 +1,14 @@
-use Rattle.procedure_file.specs.TableLaws.{start-room}
+use Rattle.procedure_file.specs.TableLaws.{before-room}
 use Rattle.procedure_lookup.specs.LookupLaws.{find-none, find-label, find-entry, find-labelled}
+use Prim.Native.Nat.{ℕ, _≤_}
+use mathlib.Core.Path.{_≡_}
 use native.Mathlib.Omega.{arith}
 use borrow.Author.Needs.{needs}
 use Rattle.procedure_lookup.proofs.find.Statement.{statement}
 use Rattle.procedure_lookup.proofs.find.Tie as tie
+
+positive : {l : ℕ} → (l ≡ 0 → ⊥) → 1 ≤ l
+positive h = omega arith
 
 functions-of-requires : tie.Need-functions-of-requires
 functions-of-requires c κs = search needs
@@ -45,22 +50,26 @@ returns-3 c =
     (omega (arith, at-if2 .if2 .left, at-byte-number .byte-number .ensures .0, at-labels-of .labels-of .ensures)) _ _
     (c .before .before .start-of .ensures) (c .before .block-past .ensures) (c .if3 .taken)
 
+bytes-before-requires : tie.Need-bytes-before-requires
+bytes-before-requires c κs = search needs
+
 sub-from : tie.Need-sub-from
 sub-from c =
-    let at-if2 = c .before .before .before in
+    let at-if3 = c .before in
+    let at-if2 = at-if3 .before .before .before in
     let at-byte-number = at-if2 .before in
     let at-labels-of = at-byte-number .before in
     let at-if1 = at-labels-of .before in
     let at-functions-of = at-if1 .before in
     let entry = at-functions-of .before .before in
-    let r = start-room (entry .args .file .now) (entry .pre .laid) (entry .args .f) (omega (arith, at-functions-of .functions-of .ensures, at-if1 .if1 .left))
-    (entry .args .l) _ (omega (arith, at-if2 .if2 .left, at-byte-number .byte-number .ensures .0, at-labels-of .labels-of .ensures))
-    (c .before .before .start-of .ensures) in
-    omega (arith, r .0)
+    before-room (entry .args .file .now) (entry .pre .laid) (entry .args .f) (omega (arith, at-functions-of .functions-of .ensures, at-if1 .if1 .left)) (entry .args .l) _ _
+    (positive (at-if3 .if3 .left)) (omega (arith, at-if2 .if2 .left, at-byte-number .byte-number .ensures .0, at-labels-of .labels-of .ensures))
+    (at-if3 .before .before .start-of .ensures) (c .bytes-before .ensures)
 
 returns-4 : tie.Need-returns-4
 returns-4 c =
-    let at-if2 = c .before .before .before in
+    let at-if3 = c .before in
+    let at-if2 = at-if3 .before .before .before in
     let at-byte-number = at-if2 .before in
     let at-labels-of = at-byte-number .before in
     let at-if1 = at-labels-of .before in
@@ -68,7 +77,7 @@ returns-4 c =
     let entry = at-functions-of .before .before in
     find-labelled (entry .args .file .now) (entry .pre .laid) (entry .args .f) (entry .args .l) (omega (arith, at-functions-of .functions-of .ensures, at-if1 .if1 .left))
     (omega (arith, at-if2 .if2 .left, at-byte-number .byte-number .ensures .0, at-labels-of .labels-of .ensures)) _ _
-    (c .before .before .start-of .ensures) (c .before .block-past .ensures) (c .if3 .left)
+    (at-if3 .before .before .start-of .ensures) (at-if3 .before .block-past .ensures) _ (c .bytes-before .ensures) (at-if3 .if3 .left)
 
 pub find-spec : {M : Type 1} → statement M
 find-spec =
@@ -82,5 +91,6 @@ find-spec =
     start-of-requires
     block-past-requires
     returns-3
+    bytes-before-requires
     sub-from
     returns-4)

@@ -1,5 +1,5 @@
 use Rattle.procedure_file.specs.FillLaws.{Row, filled-room, row-room, row-begins, row-more, row-full}
-use Prim.Native.Nat.{_-_, _+_, _≤_, _<_}
+use Prim.Native.Nat.{_-_, _+_, _*_, _≤_, _<_}
 use lib.ListN.{length}
 use borrow.Author.Needs.{needs}
 use native.Mathlib.Omega.{arith}
@@ -8,10 +8,10 @@ use Rattle.procedure_file.proofs.fill.fill_row.Statement.{statement}
 use Rattle.procedure_file.proofs.fill.fill_row.Tie as tie
 
 abbrev Inv-loop : tie.InvT-loop
-Inv-loop file f at starts₀ row entry count labels place₀ l₀ starts place l = Row file f labels starts l place
+Inv-loop file f at starts₀ row entry count labels before place₀ l₀ starts place l = Row file f labels starts l place
 
 abbrev μ-loop : tie.MeasureT-loop
-μ-loop file f at starts₀ row entry count labels place₀ l₀ starts place l = labels - l
+μ-loop file f at starts₀ row entry count labels before place₀ l₀ starts place l = labels - l
 
 room : (c : tie.Start Inv-loop μ-loop) → (c .args .f < 32) × (c .args .at + 3 ≤ length (c .args .file .now)) × (length (c .args .file .now) ≤ 32768)
 room c = filled-room (c .args .file .now) (c .args .f) (c .args .at) (c .args .starts .now) (c .pre .0) (c .pre .1)
@@ -31,42 +31,53 @@ shared-slice-read-byte-number c = omega (arith, (room (c .before .before .before
 byte-number-requires : tie.Need-byte-number-requires Inv-loop μ-loop
 byte-number-requires c κs = tt
 
+bytes-before-requires : tie.Need-bytes-before-requires Inv-loop μ-loop
+bytes-before-requires c κs = tt
+
 cast-starts : tie.Need-cast-starts Inv-loop μ-loop
-cast-starts c = let r = room (c .before .before .before .before) in omega (arith, r .1, r .2)
+cast-starts c = let r = room (c .before .before .before .before .before) in omega (arith, r .1, r .2)
 
 mul-starts : tie.Need-mul-starts Inv-loop μ-loop
-mul-starts c = omega (arith, (room (c .before .before .before .before)) .0)
+mul-starts c = omega (arith, (room (c .before .before .before .before .before)) .0)
 
 slice-write-starts : tie.Need-slice-write-starts Inv-loop μ-loop
-slice-write-starts c = omega (arith, (room (c .before .before .before .before)) .0, c .before .before .before .before .pre .0 .entries .long)
+slice-write-starts c = let entry = c .before .before .before .before .before in omega (arith, (room entry) .0, entry .pre .0 .entries .long)
 
 block-past-requires : tie.Need-block-past-requires Inv-loop μ-loop
 block-past-requires c κs = tt
 
 loop-holds : tie.Need-loop-holds Inv-loop μ-loop
 loop-holds c =
-    let entry = c .before .before .before .before .before in
+    let entry = c .before .before .before .before .before .before in
     row-begins (entry .args .file .now) (entry .args .f) (entry .args .at) (entry .args .starts .now) (entry .pre .0) (entry .pre .1) _ _ _ refl
-    (c .before .byte-number .ensures .0) (c .block-past .ensures)
+    (c .before .before .byte-number .ensures .0) (c .block-past .ensures)
+
+in-row : (c : tie.In-loop Inv-loop μ-loop)
+    → (64 * c .before .before .before .before .before .before .before .before .args .f + (c .before .loop .l + 1) < 2048)
+    × (c .before .loop .place < length (c .before .before .before .before .before .before .before .before .args .file .now))
+    × (length (c .before .before .before .before .before .before .before .before .args .file .now) ≤ 32768)
+    × (c .before .before .before .bytes-before .result ≤ 2)
+in-row c =
+    let at-bytes-before = c .before .before .before in
+    row-room _ _ _ _ _ _ (c .before .loop .inv) _ (at-bytes-before .bytes-before .ensures) (c .loop-test .taken)
 
 add-l : tie.Need-add-l Inv-loop μ-loop
-add-l c = let r = row-room _ _ _ _ _ _ (c .before .loop .inv) (c .loop-test .taken) in omega (arith, r .0)
+add-l c = let r = in-row c in omega (arith, r .0)
 
 add-index : tie.Need-add-index Inv-loop μ-loop
-add-index c = let r = row-room _ _ _ _ _ _ (c .before .loop .inv) (c .loop-test .taken) in omega (arith, r .0)
+add-index c = let r = in-row c in omega (arith, r .0)
 
 add-start : tie.Need-add-start Inv-loop μ-loop
-add-start c = let r = row-room _ _ _ _ _ _ (c .before .loop .inv) (c .loop-test .taken) in omega (arith, r .1, r .2)
+add-start c = let r = in-row c in omega (arith, r .1, r .2, r .3)
 
 cast-starts-2 : tie.Need-cast-starts-2 Inv-loop μ-loop
-cast-starts-2 c = let r = row-room _ _ _ _ _ _ (c .before .loop .inv) (c .loop-test .taken) in omega (arith, r .1, r .2)
+cast-starts-2 c = let r = in-row c in omega (arith, r .1, r .2, r .3)
 
 mul-starts-2 : tie.Need-mul-starts-2 Inv-loop μ-loop
-mul-starts-2 c = let r = row-room _ _ _ _ _ _ (c .before .loop .inv) (c .loop-test .taken) in omega (arith, r .0)
+mul-starts-2 c = let r = in-row c in omega (arith, r .0)
 
 slice-write-starts-2 : tie.Need-slice-write-starts-2 Inv-loop μ-loop
-slice-write-starts-2 c =
-    let r = row-room _ _ _ _ _ _ (c .before .loop .inv) (c .loop-test .taken) in omega (arith, r .0, c .before .loop .inv .entries .long)
+slice-write-starts-2 c = let r = in-row c in omega (arith, r .0, c .before .loop .inv .entries .long)
 
 block-past-requires-2 : tie.Need-block-past-requires-2 Inv-loop μ-loop
 block-past-requires-2 c κs = tt
@@ -75,11 +86,13 @@ loop-less : tie.Need-loop-less Inv-loop μ-loop
 loop-less c = search needs
 
 loop-again : tie.Need-loop-again Inv-loop μ-loop
-loop-again c = row-more _ _ _ _ _ _ (c .before .before .loop .inv) (c .before .loop-test .taken) _ _ refl (c .block-past2 .ensures)
+loop-again c =
+    let at-loop = c .before .before in
+    row-more _ _ _ _ _ _ (at-loop .loop .inv) _ (at-loop .before .before .bytes-before .ensures) (c .before .loop-test .taken) _ _ refl (c .block-past2 .ensures)
 
 same-length : tie.Need-same-length Inv-loop μ-loop
 same-length c =
-    let entry = c .before .before .before .before .before .before .before in
+    let entry = c .before .before .before .before .before .before .before .before in
     c .before .loop .inv .entries .long ∙ sym (entry .pre .0 .entries .long)
 
 returns : tie.Need-returns Inv-loop μ-loop
@@ -96,6 +109,7 @@ fill-row-spec =
     add-count
     shared-slice-read-byte-number
     byte-number-requires
+    bytes-before-requires
     cast-starts
     mul-starts
     slice-write-starts

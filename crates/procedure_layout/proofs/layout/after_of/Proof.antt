@@ -31,6 +31,9 @@ enum-known-o-8 c = search needs
 enum-known-o-9 : tie.Need-enum-known-o-9
 enum-known-o-9 c = search needs
 
+enum-known-o-10 : tie.Need-enum-known-o-10
+enum-known-o-10 c = search needs
+
 returns : tie.Need-returns
 returns c = ap afterOf (sym (c .before .o .given .1))
 
@@ -58,6 +61,9 @@ returns-8 c = ap afterOf (sym (c .before .o8 .given .1))
 returns-9 : tie.Need-returns-9
 returns-9 c = ap afterOf (sym (c .before .o9 .given .1))
 
+returns-10 : tie.Need-returns-10
+returns-10 c = ap afterOf (sym (c .before .o10 .given .1))
+
 pub after-of-spec : {M : Type 1} → statement M
 after-of-spec =
     tie.close
@@ -71,6 +77,7 @@ after-of-spec =
     enum-known-o-7
     enum-known-o-8
     enum-known-o-9
+    enum-known-o-10
     returns
     returns-2
     returns-3
@@ -79,4 +86,5 @@ after-of-spec =
     returns-6
     returns-7
     returns-8
-    returns-9)
+    returns-9
+    returns-10)

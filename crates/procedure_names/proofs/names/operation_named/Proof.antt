@@ -66,6 +66,15 @@ branch-named-requires c κs = search needs
 enum-told : tie.Need-enum-told
 enum-told c = search needs
 
+enum-known-o-8 : tie.Need-enum-known-o-8
+enum-known-o-8 c = search needs
+
+add-variable-named-3 : tie.Need-add-variable-named-3
+add-variable-named-3 c = search needs
+
+variable-named-requires-3 : tie.Need-variable-named-requires-3
+variable-named-requires-3 c κs = search needs
+
 enum-told-2 : tie.Need-enum-told-2
 enum-told-2 c = search needs
 
@@ -118,6 +127,12 @@ returns-9 c =
 
 returns-10 : tie.Need-returns-10
 returns-10 c =
+    let entry = c .before .before .before .before .before .before .before in
+    by-form (entry .args .params .now) (entry .args .variables) (entry .args .labels) (entry .args .file .now) (entry .args .at) (entry .args .o) _ _
+    (c .before .before .o8 .given .1) (c .variable-named3 .ensures)
+
+returns-11 : tie.Need-returns-11
+returns-11 c =
     let entry = c .before .before .before .before .before in
     by-form (entry .args .params .now) (entry .args .variables) (entry .args .labels) (entry .args .file .now) (entry .args .at) (entry .args .o) _ _ (c .enum-told2 .given .1) refl
 
@@ -144,6 +159,9 @@ operation-named-spec =
     enum-known-o-7
     branch-named-requires
     enum-told
+    enum-known-o-8
+    add-variable-named-3
+    variable-named-requires-3
     enum-told-2
     returns-2
     returns-3
@@ -153,4 +171,5 @@ operation-named-spec =
     returns-7
     returns-8
     returns-9
-    returns-10)
+    returns-10
+    returns-11)

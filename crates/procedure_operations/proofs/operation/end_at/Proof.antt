@@ -1,4 +1,4 @@
-use Rattle.procedure_operations.specs.OperationLaws.{end-5, end-6, end-7, end-8, end-unknown}
+use Rattle.procedure_operations.specs.OperationLaws.{end-5, end-6, end-7, end-8, end-9, end-unknown}
 use mathlib.Core.Path.{_∙_, sym}
 use borrow.Author.Needs.{needs}
 use Rattle.procedure_operations.proofs.operation.end_at.Statement.{statement}
@@ -16,6 +16,9 @@ branch-at-requires c κs = search needs
 add-t5 : tie.Need-add-t5
 add-t5 c = search needs
 
+raise-value-at-requires : tie.Need-raise-value-at-requires
+raise-value-at-requires c κs = search needs
+
 returns : tie.Need-returns
 returns c = c .goto-at .ensures ∙ sym (end-5 _ _ _ (c .before .match .keys1))
 
@@ -29,7 +32,10 @@ returns-4 : tie.Need-returns-4
 returns-4 c = sym (end-8 _ _ _ (c .match .keys4))
 
 returns-5 : tie.Need-returns-5
-returns-5 c = let r = c .match .rest in sym (end-unknown _ _ _ (r .0 .0 .0 .1) (r .0 .0 .1) (r .0 .1) (r .1))
+returns-5 c = c .raise-value-at .ensures ∙ sym (end-9 _ _ _ (c .before .match .keys5))
+
+returns-6 : tie.Need-returns-6
+returns-6 c = let r = c .match .rest in sym (end-unknown _ _ _ (r .0 .0 .0 .0 .1) (r .0 .0 .0 .1) (r .0 .0 .1) (r .0 .1) (r .1))
 
 pub end-at-spec : {M : Type 1} → statement M
 end-at-spec =
@@ -39,8 +45,10 @@ end-at-spec =
     return-at-requires
     branch-at-requires
     add-t5
+    raise-value-at-requires
     returns
     returns-2
     returns-3
     returns-4
-    returns-5)
+    returns-5
+    returns-6)

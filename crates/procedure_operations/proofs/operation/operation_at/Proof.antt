@@ -51,14 +51,14 @@ returns-7 c =
     let entry = c .before .before .before .before .before in
     let r = c .before .match .rest in
     sym (operation-unknown (entry .args .file .now) (entry .args .at) (omega arith) (r .0 .0 .0 .1) (r .0 .0 .1) (r .0 .1) (r .1) (λ e. omega arith) (λ e. omega arith) (λ e. omega
-    arith) (λ e. omega arith))
+    arith) (λ e. omega arith) (λ e. omega arith))
 
 returns-8 : tie.Need-returns-8
 returns-8 c =
     let entry = c .before .before .before .before .before .before in
     let r = c .before .before .match .rest in
     sym (operation-unknown (entry .args .file .now) (entry .args .at) (omega arith) (r .0 .0 .0 .1) (r .0 .0 .1) (r .0 .1) (r .1) (λ e. omega arith) (λ e. omega arith) (λ e. omega
-    arith) (λ e. omega arith))
+    arith) (λ e. omega arith) (λ e. omega arith))
 
 pub operation-at-spec : {M : Type 1} → statement M
 operation-at-spec =
