@@ -16,14 +16,15 @@ use Rattle.parsing.specs.declared.Count.the-variants.{Is, Outside}
 use Rattle.parsing.specs.declared.Checked.{Checked}
 use Rattle.parsing.specs.declared.Checked.the-variants as checked
 use Rattle.parsing.specs.Parser.{Parsed, read, refuse, andThen, pastOf, Verdict, accepted, refused, verdictOf}
-use Rattle.parsing.specs.Fields.{counted}
+use Rattle.parsing.specs.Fields.{versionOf, counted}
 use Rattle.parsing.specs.ParserLaws.{past-read}
 use Rattle.target_tags.proofs.tag.Tag.{the-type}
+use Rattle.target_tags.specs.declared.tag.NumberSlot.{NumberSlot}
 use Rattle.target_tags.specs.declared.tag.Tag.{Tag}
 use Rattle.target_tags.specs.declared.tag.Tag.the-variants.{Constant, Copy, Difference, Jump, Resume, Handle, Branch, Continuation, ContinuationWithHandler, DifferenceOrRaise, Refused}
-use Rattle.target_tags.specs.Tag.{tagAt}
+use Rattle.target_tags.specs.Tag.{numberWidth, tagAt}
 use Rattle.target_tags.specs.ViewLaws.{seen}
-use Rattle.target_slots.specs.Slots.{bound}
+use Rattle.target_slots.specs.Slots.{bound, boundNumber}
 use Rattle.target_names.specs.Names.{judged}
 use Rattle.target_parts.specs.declared.parts.After.{After}
 use Rattle.target_parts.specs.declared.parts.After.the-variants.{Onward, Bound, Ended, Halted}
@@ -61,19 +62,20 @@ module _ (names : Bool) (ps s : List ℕ) (level : ℕ) (ks : List ℕ) where
         record { fills = m .fills; inside = expression-inside names ps s (level + 1) ks at (d .reads) }
 
   -- The nested parts of tag 9: the rest, the length of the handler body, the handler body.
-  module _ (at x t n next : ℕ) (ks₁ ks′ : List ℕ) (first : ks₁ ≡ bound ks x 2) (second : ks′ ≡ bound ks₁ t 3) where
-    pub rest-stopped : (r : Refusal) → partEnd names ps s level ks′ (at + 4) next n ≡ Stopped r → Stopped r ≡ continuationWithHandlerEnd names ps s level ks at x t n next
+  module _ (at x t : ℕ) (q : NumberSlot) (n next w : ℕ) (ks₁ ks′ : List ℕ) (width : w ≡ numberWidth (versionOf s)) (first : ks₁ ≡ bound ks x 2) (second : ks′ ≡ bound ks₁ t 3) where
+    pub rest-stopped : (r : Refusal) → partEnd names ps s level ks′ (at + 4 + w) next n ≡ Stopped r → Stopped r ≡ continuationWithHandlerEnd names ps s level ks at x t q n next
     unfolding continuationWithHandlerEnd
-    rest-stopped r e = rw (← first, ← second, e)
+    rest-stopped r e = rw (← first, ← second, ← width, e)
 
-    module _ (m : ℕ) (past : partEnd names ps s level ks′ (at + 4) next n ≡ Past m) where
-      pub handler-outside : (r : Refusal) → counted (pair s m) ≡ Outside r → Stopped r ≡ continuationWithHandlerEnd names ps s level ks at x t n next
+    module _ (m : ℕ) (past : partEnd names ps s level ks′ (at + 4 + w) next n ≡ Past m) where
+      pub handler-outside : (r : Refusal) → counted (pair s m) ≡ Outside r → Stopped r ≡ continuationWithHandlerEnd names ps s level ks at x t q n next
       unfolding continuationWithHandlerEnd handlerEnd
-      handler-outside r e = rw (← first, ← second, past, pair-outside s m e)
+      handler-outside r e = rw (← first, ← second, ← width, past, pair-outside s m e)
 
-      pub handler-in : (k : ℕ) {y : Scan} → counted (pair s m) ≡ Is k → y ≡ partEnd names ps s level ks m (m + 2) k → y ≡ continuationWithHandlerEnd names ps s level ks at x t n next
+      pub handler-in : (k : ℕ) (ks₂ : List ℕ) {y : Scan} → ks₂ ≡ boundNumber ks q → counted (pair s m) ≡ Is k → y ≡ partEnd names ps s level ks₂ m (m + 2) k
+          → y ≡ continuationWithHandlerEnd names ps s level ks at x t q n next
       unfolding continuationWithHandlerEnd handlerEnd partEnd
-      handler-in k e f = rw (← first, ← second, past, pair-is s m e) f
+      handler-in k ks₂ third e f = rw (← first, ← second, ← third, ← width, past, pair-is s m e) f
 
 -- The body of a function.
 module _ (names : Bool) (ps s : List ℕ) (ks : List ℕ) (at : ℕ) where
@@ -224,14 +226,14 @@ module _ (names : Bool) (ps s : List ℕ) (level : ℕ) (ks : List ℕ) (at : �
   node-follows (Difference x y z next) = refl
   node-follows (Jump g k h n next) = refl
   node-follows (Resume k y next) = refl
-  node-follows (Handle h next) = refl
+  node-follows (Handle h y next) = refl
   node-follows (Branch y z n next) =
       then-follows (Branch y z n next) (measured (at + 3) next n (nested s (inner names ps s) level ks next)) (λ e m. Onward m) (λ e m. refl)
   node-follows (Continuation x p n next) =
       then-follows (Continuation x p n next) (measured (at + 3) next n (nested s (inner names ps s) level (bound ks x 2) next)) (λ e m. Bound m p) (λ e m. refl)
-  node-follows (ContinuationWithHandler x p t n next) =
-      both-follow (ContinuationWithHandler x p t n next) (measured (at + 4) next n (nested s (inner names ps s) level (bound (bound ks x 2) t 3) next))
-      (λ m. sized (λ s′ i. nested s (inner names ps s) level ks i) s m) (λ e h m. Bound m p) (λ e h m. refl)
+  node-follows (ContinuationWithHandler x p t q n next) =
+      both-follow (ContinuationWithHandler x p t q n next) (measured (at + 4 + numberWidth (versionOf s)) next n (nested s (inner names ps s) level (bound (bound ks x 2) t 3) next))
+      (λ m. sized (λ s′ i. nested s (inner names ps s) level (boundNumber ks q) i) s m) (λ e h m. Bound m p) (λ e h m. refl)
   node-follows (DifferenceOrRaise x y z n next) =
       then-follows (DifferenceOrRaise x y z n next) (measured (at + 4) next n (nested s (inner names ps s) level ks next)) (λ e m. Bound m x) (λ e m. refl)
   node-follows (Refused r) = refl
@@ -262,9 +264,9 @@ module _ (names : Bool) (ps s : List ℕ) (level : ℕ) (ks : List ℕ) (at : �
   no-parts (Difference x y z next) w = refl
   no-parts (Jump g k h n next) w = refl
   no-parts (Resume k y next) w = refl
-  no-parts (Handle h next) w = refl
+  no-parts (Handle h y next) w = refl
   no-parts (Branch y z n next) w = absurd (miss (0 ∷ 1 ∷ 2 ∷ 3 ∷ 4 ∷ 5 ∷ 10 ∷ []) 6 tt w)
   no-parts (Continuation x p n next) w = absurd (miss (0 ∷ 1 ∷ 2 ∷ 3 ∷ 4 ∷ 5 ∷ 10 ∷ []) 7 tt w)
-  no-parts (ContinuationWithHandler x p t n next) w = absurd (miss (0 ∷ 1 ∷ 2 ∷ 3 ∷ 4 ∷ 5 ∷ 10 ∷ []) 8 tt w)
+  no-parts (ContinuationWithHandler x p t q n next) w = absurd (miss (0 ∷ 1 ∷ 2 ∷ 3 ∷ 4 ∷ 5 ∷ 10 ∷ []) 8 tt w)
   no-parts (DifferenceOrRaise x y z n next) w = absurd (miss (0 ∷ 1 ∷ 2 ∷ 3 ∷ 4 ∷ 5 ∷ 10 ∷ []) 9 tt w)
   no-parts (Refused r) w = refl

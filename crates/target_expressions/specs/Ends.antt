@@ -6,9 +6,12 @@ use Rattle.semantics.specs.Code.{Expr}
 use Rattle.parsing.specs.declared.Scan.{Scan}
 use Rattle.parsing.specs.declared.Scan.the-variants.{Past, Stopped}
 use Rattle.parsing.specs.Parser.{refusal, Parsed, read, refuse, pastOf, Verdict, accepted, refused}
+use Rattle.parsing.specs.Fields.{versionOf}
+use Rattle.target_tags.specs.declared.tag.NumberSlot.{NumberSlot}
 use Rattle.target_tags.specs.declared.tag.Tag.{Tag}
 use Rattle.target_tags.specs.declared.tag.Tag.the-variants.{Constant, Copy, Difference, Jump, Resume, Handle, Branch, Continuation, ContinuationWithHandler, DifferenceOrRaise, Refused}
-use Rattle.target_slots.specs.Slots.{continuationKind, handlerKind, bound}
+use Rattle.target_tags.specs.Tag.{numberWidth}
+use Rattle.target_slots.specs.Slots.{continuationKind, handlerKind, bound, boundNumber}
 use Rattle.target_names.specs.Names.{judged}
 use Rattle.target_parts.specs.declared.parts.After.{After}
 use Rattle.target_parts.specs.declared.parts.After.the-variants.{Onward, Bound, Ended, Halted}
@@ -39,9 +42,10 @@ module _ (names : Bool) (ps s : List ℕ) where
   unfoldable pub handlerEnd : ℕ → List ℕ → ℕ → Scan
   handlerEnd level ks at = pastOf (sized (λ s′ m. nested s inner level ks m) s at)
 
-  unfoldable pub continuationWithHandlerEnd : ℕ → List ℕ → ℕ → ℕ → ℕ → ℕ → ℕ → Scan
-  continuationWithHandlerEnd level ks at x t n next =
-      thenPast (partEnd level (bound (bound ks x continuationKind) t handlerKind) (at + 4) next n) (λ m. handlerEnd level ks m)
+  unfoldable pub continuationWithHandlerEnd : ℕ → List ℕ → ℕ → ℕ → ℕ → NumberSlot → ℕ → ℕ → Scan
+  continuationWithHandlerEnd level ks at x t q n next =
+      thenPast (partEnd level (bound (bound ks x continuationKind) t handlerKind) (at + 4 + numberWidth (versionOf s)) next n)
+      (λ m. handlerEnd level (boundNumber ks q) m)
 
   -- The end of a node with its nested parts.
   unfoldable pub partsEnd : ℕ → List ℕ → ℕ → Tag → Scan
@@ -50,10 +54,10 @@ module _ (names : Bool) (ps s : List ℕ) where
   partsEnd level ks at (Difference x y z next) = Past next
   partsEnd level ks at (Jump g k h n next) = Past next
   partsEnd level ks at (Resume k y next) = Past next
-  partsEnd level ks at (Handle h next) = Past next
+  partsEnd level ks at (Handle h y next) = Past next
   partsEnd level ks at (Branch y z n next) = partEnd level ks (at + 3) next n
   partsEnd level ks at (Continuation x p n next) = partEnd level (bound ks x continuationKind) (at + 3) next n
-  partsEnd level ks at (ContinuationWithHandler x p t n next) = continuationWithHandlerEnd level ks at x t n next
+  partsEnd level ks at (ContinuationWithHandler x p t q n next) = continuationWithHandlerEnd level ks at x t q n next
   partsEnd level ks at (DifferenceOrRaise x y z n next) = partEnd level ks (at + 4) next n
   partsEnd level ks at (Refused r) = Stopped r
 

@@ -1,4 +1,4 @@
--- The reading of an expression (document 01, 'The translated file'; document 02, Slip 2): which expression the bytes at an offset are, or the first refusal.
+-- The reading of an expression (document 01, 'The translated file'; document 02, Slips 2 and 7): which expression the bytes at an offset are, or the first refusal.
 use Prim.Native.Nat.{ℕ, zero, suc, _+_}
 use mathlib.Core.Bool.{Bool}
 use mathlib.Core.List.{List}
@@ -6,11 +6,11 @@ use lib.ListN.{length, take, drop}
 use Rattle.semantics.specs.Code.{Slot, Expr, letConstant, letSlot, letDifference, jump, resume, handle, ifAtMost, letContinuation, letContinuationWithHandler, letDifferenceOrRaise}
 use Rattle.parsing.specs.declared.Refusal.{Refusal}
 use Rattle.parsing.specs.Parser.{refusal, Parsed, read, refuse, Parser, andThen, Verdict, accepted, refused}
-use Rattle.parsing.specs.Fields.{cut}
+use Rattle.parsing.specs.Fields.{cut, versionOf}
 use Rattle.target_tags.specs.declared.tag.Tag.{Tag}
 use Rattle.target_tags.specs.declared.tag.Tag.the-variants.{Constant, Copy, Difference, Jump, Resume, Handle, Branch, Continuation, ContinuationWithHandler, DifferenceOrRaise, Refused}
-use Rattle.target_tags.specs.Tag.{tagAt}
-use Rattle.target_slots.specs.Slots.{wholeKind, continuationKind, handlerKind, bound}
+use Rattle.target_tags.specs.Tag.{numberWidth, slotIn, tagAt}
+use Rattle.target_slots.specs.Slots.{wholeKind, continuationKind, handlerKind, bound, boundNumber}
 use Rattle.target_names.specs.Names.{judged}
 use Rattle.target_parts.specs.Parts.{measured, sized, levelVerdict}
 
@@ -56,11 +56,13 @@ nodeOf s ks at (Copy x y next) = found next (goesOnBound x (letSlot x y))
 nodeOf s ks at (Difference x y z next) = found next (goesOnBound x (letDifference x y z))
 nodeOf s ks at (Jump g k h n next) = found next (ends (jump g k h (slotsAt s (at + 6) n)))
 nodeOf s ks at (Resume k y next) = found next (ends (resume k y))
-nodeOf s ks at (Handle h next) = found next (ends (handle h))
+nodeOf s ks at (Handle h y next) = found next (ends (handle h (slotIn y)))
 nodeOf s ks at (Branch y z n next) = found next (part (at + 3) n ks (λ e. goesOn (ifAtMost y z e)))
 nodeOf s ks at (Continuation x p n next) = found next (part (at + 3) n (bound ks x continuationKind) (λ e. goesOnBound p (letContinuation x p e)))
-nodeOf s ks at (ContinuationWithHandler x p t n next) =
-    found next (part (at + 4) n (bound (bound ks x continuationKind) t handlerKind) (λ e. sizedPart ks (λ h. goesOnBound p (letContinuationWithHandler x p t e h))))
+nodeOf s ks at (ContinuationWithHandler x p t q n next) =
+    found next
+    (part (at + 4 + numberWidth (versionOf s)) n (bound (bound ks x continuationKind) t handlerKind)
+    (λ e. sizedPart (boundNumber ks q) (λ h. goesOnBound p (letContinuationWithHandler x p t (slotIn q) e h))))
 nodeOf s ks at (DifferenceOrRaise x y z n next) = found next (part (at + 4) n ks (λ r. goesOnBound x (letDifferenceOrRaise x y z r)))
 nodeOf s ks at (Refused r) = missing r
 

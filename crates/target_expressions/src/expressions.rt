@@ -8,6 +8,7 @@ use target_parts::parts::After;
 use target_slots::slots;
 use target_tags::tag;
 use target_tags::tag::MAX_SLOTS;
+use target_tags::tag::NumberSlot;
 use target_tags::tag::Tag;
 ghost use mathlib.Core.Path.{_≡_};
 ghost use lib.ListN.{length};
@@ -107,6 +108,7 @@ fn parts_end(
         Tag::ContinuationWithHandler {
             slot,
             handler,
+            number,
             size,
             next,
             ..
@@ -119,6 +121,7 @@ fn parts_end(
             at,
             slot,
             handler,
+            number,
             size,
             next,
         ),
@@ -129,7 +132,7 @@ fn parts_end(
     }
 }
 
-// The nested parts of tag 9: the rest, which sees the new slots, and the handler body behind its length, which does not.
+// The nested parts of tag 9: the rest, which sees the new slots, and the handler body behind its length, which sees its parameter instead.
 fn continuation_with_handler_end(
     file: &[u8],
     params: &[u8],
@@ -139,24 +142,28 @@ fn continuation_with_handler_end(
     at: usize,
     slot: usize,
     handler: usize,
+    number: NumberSlot,
     size: usize,
     next: usize,
 ) -> Scan
     requires { ⌜ length (now file) ≤ fileLimit ⌝ }
     requires { ⌜ at < next ⌝ }
     requires { ⌜ next ≤ length (now file) ⌝ }
-    ensures { λ r. ⌜ r ≡ continuationWithHandlerEnd names (now (params .entry)) (now (file .entry)) level kinds at slot handler size next ⌝ }
+    ensures { λ r. ⌜ r ≡ continuationWithHandlerEnd names (now (params .entry)) (now (file .entry)) level kinds at slot handler number size next ⌝ }
 {
+    let caught = slots::bind_number(kinds, number);
     let rest = slots::bind(
         slots::bind(kinds, slot, slots::CONTINUATION_KIND),
         handler,
         slots::HANDLER_KIND,
     );
-    match part_end(file, params, names, level, rest, next, size, at + 4) {
+    let last = at + 4;
+    let place = last + tag::number_width(file);
+    match part_end(file, params, names, level, rest, next, size, place) {
         Scan::Stopped(r) => Scan::Stopped(r),
         Scan::Past(middle) => match parts::size_at(file, middle) {
             Count::Outside(r) => Scan::Stopped(r),
-            Count::Is(n) => part_end(file, params, names, level, kinds, middle + 2, n, middle),
+            Count::Is(n) => part_end(file, params, names, level, caught, middle + 2, n, middle),
         },
     }
 }

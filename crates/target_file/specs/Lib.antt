@@ -7,6 +7,8 @@ pub mod Tables
 pub mod LoadedCode
 pub mod SizeFirst
 -- Laws and theorems: AcceptedLaws proves Accepted, TranslatedLaws proves Translated, SizeFirstLaws which answers Slip 5 changed, LoadedCodeLaws and FormLaws give what the controller cites.
+pub mod NumberSlotLaws
+pub mod MoreSlotsLaws
 pub mod RightLaws
 pub mod ReadLaws
 pub mod FormLaws

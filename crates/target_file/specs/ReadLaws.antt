@@ -1,6 +1,6 @@
 -- An expression that was read stands there, nests as deep as is allowed, and has right names where they were judged.
 use Prim.Native.Nat.{ℕ, zero, suc, _+_, _≤_, _<_}
-use mathlib.Core.Path.{_≡_, refl, sym, ap, _∙_, subst}
+use mathlib.Core.Path.{_≡_, refl, sym, ap, ap₂, _∙_, subst}
 use mathlib.Core.Bool.{Bool, true, cond}
 use mathlib.Core.List.{List}
 use native.Mathlib.Omega.{arith}
@@ -10,30 +10,37 @@ use Rattle.semantics.specs.Code.{Expr, Code}
 use Rattle.parsing.specs.Parser.{read, accepted, orElse}
 use Rattle.parsing.specs.VerdictLaws.{or-accepted}
 use Rattle.parsing.specs.ParserLaws.{sequence}
+use Rattle.parsing.specs.Fields.{versionOf}
+use Rattle.target_tags.specs.declared.tag.NumberSlot.{NumberSlot}
 use Rattle.target_tags.specs.declared.tag.Tag.{Tag}
-use Rattle.target_tags.specs.declared.tag.Tag.the-variants.{Branch, Continuation, ContinuationWithHandler, DifferenceOrRaise}
-use Rattle.target_tags.specs.Tag.{pairAt, tagAt}
+use Rattle.target_tags.specs.declared.tag.Tag.the-variants.{Handle, Branch, Continuation, ContinuationWithHandler, DifferenceOrRaise}
+use Rattle.target_tags.specs.Tag.{slotsIn, numberWidth, numberSlotAt, slotIn, numberSlot, pairAt, tagAt}
 use Rattle.target_slots.specs.Slots.{binds, reads, differ, bound}
-use Rattle.target_names.specs.Names.{function, arity, values, jumpNames, continuationWithHandlerNames, namesOf, judged}
+use Rattle.target_names.specs.Names.{function, arity, values, readsNumber, bindsNumber, jumpNames, handleNames, continuationWithHandlerNames, namesOf, judged}
 use Rattle.target_tags.specs.ViewLaws.{View, isConstant, isCopy, isDifference, isJump, isResume, isHandle, isBranch, isContinuation, isBoth, isDifferenceOrRaise, isRefused, view}
 use Rattle.target_parts.specs.Parts.{measured, sized}
 use Rattle.target_expressions.specs.Expressions.{Reading, nested, Behind, ends, goesOn, goesOnBound, part, sizedPart, Node, found, missing, nodeOf, readBehind, readNode, expressionN, expression, slotsAt}
-use Rattle.semantics.specs.SlotRules.{wholeKind, continuationKind, handlerKind, Kinds, bindKind, KeepsRules}
+use Rattle.semantics.specs.SlotRules.{wholeKind, continuationKind, handlerKind, Kinds, bindKind, bindNumberKind, KeepsRules}
 use Rattle.target_file.specs.Check.{arities}
 use Rattle.target_file.specs.Writing.{size, Nests}
 use Rattle.target_file.specs.LoadedCode.{ExprAt}
 use Rattle.target_expressions.specs.PartLaws.{impossible, before-read, after-read, measured-read, nested-read, sized-read}
-use Rattle.target_file.specs.RightLaws.{Like, like-bind, binds-right, reads-right, difference-right, differ-right, function-right, arity-right, values-right}
+use Rattle.target_file.specs.NumberSlotLaws.{slot-forth, slot-width}
+use Rattle.target_file.specs.RightLaws.{Like, like-bind, like-number, binds-right, reads-right, reads-number-right, binds-number-right, difference-right, differ-right, function-right, arity-right, values-right}
 
 pub slots-length : (s : List ℕ) (at n : ℕ) → at + n ≤ length s → length (slotsAt s at n) ≡ n
 slots-length s at n h = let l = length-drop at s in length-take-le n (drop at s) (omega arith)
 
 module _ (names : Bool) (ps s : List ℕ) (Q : Code) (named : names ≡ true → ps ≡ arities Q) where
+  -- The slots of the file's version.
+  abbrev slots : ℕ
+  slots = slotsIn (versionOf s)
+
   pub record Found (level : ℕ) (ks : List ℕ) (at : ℕ) (e : Expr) (next : ℕ) : Type 0 where
     pub here : ExprAt s at e
     pub past : next ≡ at + size e
     pub nests : Nests level e
-    pub right : names ≡ true → (KS : Kinds) → Like KS ks → KeepsRules Q 36 KS e
+    pub right : names ≡ true → (KS : Kinds) → Like slots KS ks → KeepsRules Q slots KS e
 
   Finds : Reading → Type 0
   Finds k = (level : ℕ) (ks : List ℕ) (at : ℕ) (e : Expr) (next : ℕ) → k level ks at ≡ read e next → Found level ks at e next
@@ -92,8 +99,8 @@ module _ (names : Bool) (ps s : List ℕ) (Q : Code) (named : names ≡ true →
     by-equal : {r : Expr} → r ≡ e → Found level ks at r next → Found level ks at e next
     by-equal q f = subst (λ r. Found level ks at r next) q f
 
-    from-found : {t : Tag} → View s at t → t ≡ tagAt s at → (names ≡ true → namesOf ps ks s at t ≡ accepted) → FoundNode level ks (nodeOf s ks at t) e next → Found level ks at e next
-    unfolding namesOf jumpNames continuationWithHandlerNames
+    from-found : {t : Tag} → View s at t → t ≡ tagAt s at → (names ≡ true → namesOf slots ps ks s at t ≡ accepted) → FoundNode level ks (nodeOf s ks at t) e next → Found level ks at e next
+    unfolding namesOf jumpNames handleNames continuationWithHandlerNames
     from-found (isConstant f h) is right (r, F, o) =
         let x = getD s (at + 1) 0 in
         by-equal o
@@ -112,7 +119,7 @@ module _ (names : Bool) (ps s : List ℕ) (Q : Code) (named : names ≡ true →
           past = omega (arith, F .past);
           nests = F .nests;
           right = λ q KS l.
-              let a = or-accepted (binds (at + 1) x) (reads ks 1 (at + 2) y) (right q) in
+              let a = or-accepted (binds slots (at + 1) x) (reads slots ks 1 (at + 2) y) (right q) in
               let b = binds-right (at + 1) x (a .0) in
               (b, reads-right l wholeKind (at + 2) y (a .1), F .right q (bindKind KS x wholeKind) (like-bind x wholeKind b l));
         })
@@ -141,10 +148,10 @@ module _ (names : Bool) (ps s : List ℕ) (Q : Code) (named : names ≡ true →
           past = omega arith;
           nests = tt;
           right = λ q KS l.
-              let w = or-accepted (jumpNames ps ks at g c d n) (values ks s (at + 6) n) (right q) in
-              let v = or-accepted (orElse (function ps (at + 1) g) (orElse (reads ks 2 (at + 3) c) (reads ks 3 (at + 4) d))) (arity ps (at + 5) g n) (w .0) in
-              let a = or-accepted (function ps (at + 1) g) (orElse (reads ks 2 (at + 3) c) (reads ks 3 (at + 4) d)) (v .0) in
-              let u = or-accepted (reads ks 2 (at + 3) c) (reads ks 3 (at + 4) d) (a .1) in
+              let w = or-accepted (jumpNames slots ps ks at g c d n) (values slots ks s (at + 6) n) (right q) in
+              let v = or-accepted (orElse (function ps (at + 1) g) (orElse (reads slots ks 2 (at + 3) c) (reads slots ks 3 (at + 4) d))) (arity ps (at + 5) g n) (w .0) in
+              let a = or-accepted (function ps (at + 1) g) (orElse (reads slots ks 2 (at + 3) c) (reads slots ks 3 (at + 4) d)) (v .0) in
+              let u = or-accepted (reads slots ks 2 (at + 3) c) (reads slots ks 3 (at + 4) d) (a .1) in
               (function-right Q (named q) (at + 1) g (a .0), reads-right l continuationKind (at + 3) c (u .0), reads-right l handlerKind (at + 4) d (u .1), few ∙ arity-right Q (named q) (at + 5) g n (v .1), values-right l s n (at + 6) h (w .1));
         })
     from-found (isResume f h) is right (o, m) =
@@ -155,10 +162,21 @@ module _ (names : Bool) (ps s : List ℕ) (Q : Code) (named : names ≡ true →
           here = sym is;
           past = sym m;
           nests = tt;
-          right = λ q KS l. let a = or-accepted (reads ks 2 (at + 1) c) (reads ks 1 (at + 2) y) (right q) in (reads-right l continuationKind (at + 1) c (a .0), reads-right l wholeKind (at + 2) y (a .1));
+          right = λ q KS l. let a = or-accepted (reads slots ks 2 (at + 1) c) (reads slots ks 1 (at + 2) y) (right q) in (reads-right l continuationKind (at + 1) c (a .0), reads-right l wholeKind (at + 2) y (a .1));
         })
     from-found (isHandle f h) is right (o, m) =
-        by-equal o (record { here = sym is; past = sym m; nests = tt; right = λ q KS l. reads-right l handlerKind (at + 1) (getD s (at + 1) 0) (right q) })
+        let c = getD s (at + 1) 0 in
+        let y = numberSlotAt s (at + 2) in
+        let w = slot-width s (at + 2) in
+        by-equal o
+        (record {
+          here = sym is ∙ ap₂ (λ (z : NumberSlot) (n : ℕ). Handle c z (at + 2 + n)) (sym (slot-forth y)) w;
+          past = omega (arith, m, w);
+          nests = tt;
+          right = λ q KS l.
+              let a = or-accepted (reads slots ks 3 (at + 1) c) (readsNumber slots ks (at + 2) y) (right q) in
+              (reads-right l handlerKind (at + 1) c (a .0), reads-number-right l (at + 2) y (a .1));
+        })
     from-found (isBranch f h) is right (r, P, (k, F, o)) =
         let y = getD s (at + 1) 0 in
         let z = getD s (at + 2) 0 in
@@ -168,7 +186,7 @@ module _ (names : Bool) (ps s : List ℕ) (Q : Code) (named : names ≡ true →
           past = omega (arith, F .past);
           nests = (P .shallow, P .stands .nests, F .nests);
           right = λ q KS l.
-              let a = or-accepted (reads ks 1 (at + 1) y) (reads ks 1 (at + 2) z) (right q) in
+              let a = or-accepted (reads slots ks 1 (at + 1) y) (reads slots ks 1 (at + 2) z) (right q) in
               (reads-right l wholeKind (at + 1) y (a .0), reads-right l wholeKind (at + 2) z (a .1), P .stands .right q KS l, F .right q KS l);
         })
     from-found (isContinuation f h) is right (r, P, (k, F, o)) =
@@ -180,7 +198,7 @@ module _ (names : Bool) (ps s : List ℕ) (Q : Code) (named : names ≡ true →
           past = omega (arith, F .past);
           nests = (P .shallow, P .stands .nests, F .nests);
           right = λ q KS l.
-              let a = or-accepted (binds (at + 1) x) (binds (at + 2) y) (right q) in
+              let a = or-accepted (binds slots (at + 1) x) (binds slots (at + 2) y) (right q) in
               let b₁ = binds-right (at + 1) x (a .0) in
               let b₂ = binds-right (at + 2) y (a .1) in
               (b₁, b₂, P .stands .right q (bindKind KS x continuationKind) (like-bind x continuationKind b₁ l), F .right q (bindKind KS y wholeKind) (like-bind y wholeKind b₂ l));
@@ -189,24 +207,39 @@ module _ (names : Bool) (ps s : List ℕ) (Q : Code) (named : names ≡ true →
         let x = getD s (at + 1) 0 in
         let y = getD s (at + 2) 0 in
         let t = getD s (at + 3) 0 in
+        let z = numberSlotAt s (at + 4) in
+        let w = slot-width s (at + 4) in
+        let v = numberWidth (versionOf s) in
+        let ends = orElse (binds slots (at + 3) t) (differ (at + 3) x t) in
         by-equal o
         (record {
-          here = (sym is ∙ ap (λ (j : ℕ). ContinuationWithHandler x y t j (at + 6)) (P .fills), H .fills, P .stands .here, H .stands .here, F .here);
-          past = omega (arith, F .past);
+          here = subst (λ (n : ℕ). let i = at + 6 + n in
+              (tagAt s at ≡ ContinuationWithHandler x y t (numberSlot (slotIn z)) (size r) i) × (pairAt s (i + size r) ≡ size c)
+              × ExprAt s i r × ExprAt s (i + size r + 2) c × ExprAt s (i + size r + 2 + size c) k) w (
+                sym is ∙ ap₂ (λ (u : NumberSlot) (j : ℕ). ContinuationWithHandler x y t u j (at + 6 + v)) (sym (slot-forth z)) (P .fills),
+                H .fills,
+                P .stands .here,
+                H .stands .here,
+                F .here,
+              );
+          past = omega (arith, F .past, w);
           nests = (P .shallow, P .stands .nests, (P .shallow, H .stands .nests, F .nests));
           right = λ q KS l.
-              let a = or-accepted (orElse (binds (at + 1) x) (binds (at + 2) y)) (orElse (binds (at + 3) t) (differ (at + 3) x t)) (right q) in
-              let a₁ = or-accepted (binds (at + 1) x) (binds (at + 2) y) (a .0) in
-              let a₂ = or-accepted (binds (at + 3) t) (differ (at + 3) x t) (a .1) in
+              let a = or-accepted (orElse (binds slots (at + 1) x) (binds slots (at + 2) y)) (orElse ends (bindsNumber slots (at + 4) z)) (right q) in
+              let a₁ = or-accepted (binds slots (at + 1) x) (binds slots (at + 2) y) (a .0) in
+              let a₂ = or-accepted ends (bindsNumber slots (at + 4) z) (a .1) in
+              let a₃ = or-accepted (binds slots (at + 3) t) (differ (at + 3) x t) (a₂ .0) in
               let b₁ = binds-right (at + 1) x (a₁ .0) in
               let b₂ = binds-right (at + 2) y (a₁ .1) in
-              let b₃ = binds-right (at + 3) t (a₂ .0) in (
+              let b₃ = binds-right (at + 3) t (a₃ .0) in
+              let b₄ = binds-number-right slots (at + 4) z (a₂ .1) in (
                 b₁,
                 b₂,
                 b₃,
-                differ-right (at + 3) x t (a₂ .1),
+                differ-right (at + 3) x t (a₃ .1),
+                b₄,
                 P .stands .right q (bindKind (bindKind KS x continuationKind) t handlerKind) (like-bind t handlerKind b₃ (like-bind x continuationKind b₁ l)),
-                H .stands .right q KS l,
+                H .stands .right q (bindNumberKind KS (slotIn z)) (like-number z b₄ l),
                 F .right q (bindKind KS y wholeKind) (like-bind y wholeKind b₂ l),
               );
         })
@@ -225,9 +258,9 @@ module _ (names : Bool) (ps s : List ℕ) (Q : Code) (named : names ≡ true →
         })
     from-found (isRefused r) is right w = absurd w
 
-  judged-right : (ks : List ℕ) (at : ℕ) (t : Tag) → judged names ps ks s at t ≡ accepted → names ≡ true → namesOf ps ks s at t ≡ accepted
+  judged-right : (ks : List ℕ) (at : ℕ) (t : Tag) → judged names ps ks s at t ≡ accepted → names ≡ true → namesOf slots ps ks s at t ≡ accepted
   unfolding judged
-  judged-right ks at t e q = sym (ap (λ b. cond b (namesOf ps ks s at t) accepted) q) ∙ e
+  judged-right ks at t e q = sym (ap (λ b. cond b (namesOf slots ps ks s at t) accepted) q) ∙ e
 
   found-fuel : (n level : ℕ) (ks : List ℕ) (at : ℕ) (e : Expr) (next : ℕ) → expressionN names ps s n level ks at ≡ read e next → Found level ks at e next
   unfolding Finds

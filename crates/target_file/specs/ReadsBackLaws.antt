@@ -1,7 +1,8 @@
 -- Code that is written stands where it is written.
 use Prim.Native.Nat.{ℕ, suc, _+_, _*_, _/_, _%_, _≤_}
 use mathlib.Core.Path.{_≡_, refl, sym, ap, _∙_}
-use mathlib.Core.List.{List, [], _∷_, _++_, append-assoc}
+use mathlib.Core.List.{List, [], _∷_, _++_, append-assoc, append-nil}
+use mathlib.Core.Option.{Option}
 use native.Mathlib.Omega.{arith}
 use lib.IntN.{ℤ}
 use lib.ListN.{length, getD, take, drop, length-append}
@@ -10,14 +11,15 @@ use mir.Syntax.{w32}
 use mir.Val.{SFits}
 use Rattle.semantics.specs.Code.{Expr, letConstant, letSlot, letDifference, jump, resume, handle, ifAtMost, letContinuation, letContinuationWithHandler, letDifferenceOrRaise, Code}
 use Rattle.parsing.specs.Parser.{joined}
-use Rattle.parsing.specs.Fields.{valueAt}
+use Rattle.parsing.specs.Fields.{versionOf, valueAt}
 use Rattle.parsing.specs.Bytes.{pairBytes, valueBytes}
 use Rattle.parsing.specs.BytesLaws.{pair-forth, value-forth}
 use Rattle.parsing.specs.ReadsLaws.{byte-here, first-here, length-here, next-here, behind}
 use Rattle.target_tags.specs.declared.tag.Tag.the-variants.{Constant, Copy, Difference, Jump, Resume, Handle, Branch, Continuation, ContinuationWithHandler, DifferenceOrRaise}
-use Rattle.target_tags.specs.Tag.{pairAt, tagAt}
+use Rattle.target_tags.specs.Tag.{numberWidth, numberSlot, pairAt, tagAt}
 use Rattle.target_tags.specs.TagLaws.{tag-1, tag-2, tag-3, tag-4, tag-5, tag-6, tag-7, tag-8, tag-9, tag-10, constant-in, copy-in, difference-in, jump-in, resume-in, handle-in, branch-in, continuation-in, tag-9-in, tag-10-in}
-use Rattle.target_file.specs.Writing.{Parts, ends, bytes, constant, nested, partsOf, partsSize, partsBytes, size, exprBytes, targetBytes, ConstantsFit}
+use Rattle.target_file.specs.Writing.{Parts, ends, bytes, constant, number, nested, slotBytes, slotWidth, partsOf, partsSize, partsBytes, size, exprBytes, targetBytes, FieldsFit}
+use Rattle.target_file.specs.NumberSlotLaws.{slot-here}
 use Rattle.target_file.specs.LoadedCode.{ExprAt}
 use Rattle.target_file.specs.CodeLaws.{codeSize, CodeAt}
 use Rattle.semantics.specs.WellFormed.{All}
@@ -26,6 +28,7 @@ parts-length : (p : Parts) → length (partsBytes p) ≡ partsSize p
 parts-length (ends ss) = refl
 parts-length (bytes w r) = length-append w (partsBytes r) ∙ ap (λ (n : ℕ). length w + n) (parts-length r)
 parts-length (constant i r) = let a = parts-length r in omega arith
+parts-length (number y r) = length-append (slotBytes y) (partsBytes r) ∙ ap (λ (n : ℕ). slotWidth y + n) (parts-length r)
 parts-length (nested p r) =
     let a = parts-length p in
     let b = parts-length r in
@@ -83,11 +86,16 @@ module _ (s : List ℕ) where
         let l = length-here s at (5 ∷ k ∷ y ∷ rest) h in
         sym (resume-in s at k y (omega arith) (sym (b 1)) (sym (b 2)) ∙ tag-5 s at (omega arith) (first-here s at (5 ∷ k ∷ y ∷ rest) h))
 
-    handle-here : (c : ℕ) → drop at s ≡ 6 ∷ c ∷ rest → tagAt s at ≡ Handle c (at + 2)
-    handle-here c h =
-        let b = byte-here s at (6 ∷ c ∷ rest) h in
-        let l = length-here s at (6 ∷ c ∷ rest) h in
-        sym (handle-in s at c (omega arith) (sym (b 1)) ∙ tag-6 s at (omega arith) (first-here s at (6 ∷ c ∷ rest) h))
+    handle-here : (c : ℕ) (y : Option ℕ) → slotWidth y ≡ numberWidth (versionOf s) → drop at s ≡ 6 ∷ c ∷ (slotBytes y ++ rest)
+        → tagAt s at ≡ Handle c (numberSlot y) (at + 2 + slotWidth y)
+    handle-here c y w h =
+        let k : List ℕ = 6 ∷ c ∷ (slotBytes y ++ rest) in
+        let b = byte-here s at k h in
+        let l = length-here s at k h in
+        let m = length-append (slotBytes y) rest in
+        sym
+        (handle-in s at c (numberSlot y) (slotWidth y) w (omega (arith, l, m)) (sym (b 1)) (slot-here s (at + 2) y rest w (next-here s at k h 2))
+        ∙ tag-6 s at (omega (arith, l, m)) (first-here s at k h))
 
     branch-here : (y z n : ℕ) → drop at s ≡ 7 ∷ y ∷ z ∷ (pairBytes n ++ rest) → tagAt s at ≡ Branch y z n (at + 5)
     branch-here y z n h =
@@ -128,10 +136,20 @@ module _ (s : List ℕ) where
           sized = pair-here at l h 4 n refl refl;
         }
 
-    tag-9-here : (x p t n : ℕ) → drop at s ≡ 9 ∷ x ∷ p ∷ t ∷ (pairBytes n ++ rest) → tagAt s at ≡ ContinuationWithHandler x p t n (at + 6)
-    tag-9-here x p t n h =
-        let f = three-and-length 9 x p t n h in
-        sym (tag-9-in s at x p t n (f .inside) (f .first) (f .second) (f .third) (f .sized) ∙ tag-9 s at (omega (arith, f .inside)) (f .tag))
+    tag-9-here : (x p t : ℕ) (q : Option ℕ) (n : ℕ) → slotWidth q ≡ numberWidth (versionOf s) → drop at s ≡ 9 ∷ x ∷ p ∷ t ∷ (slotBytes q ++ (pairBytes n ++ rest))
+        → tagAt s at ≡ ContinuationWithHandler x p t (numberSlot q) n (at + 6 + slotWidth q)
+    tag-9-here x p t q n w h =
+        let k : List ℕ = 9 ∷ x ∷ p ∷ t ∷ (slotBytes q ++ (pairBytes n ++ rest)) in
+        let b = byte-here s at k h in
+        let l = length-here s at k h in
+        let m = length-append (slotBytes q) (pairBytes n ++ rest) in
+        let g : drop (at + 4) s ≡ slotBytes q ++ (pairBytes n ++ rest) = next-here s at k h 4 in
+        let o = at + 4 + slotWidth q in
+        let z : o + 0 ≡ o = omega arith in
+        let f : n ≡ pairAt s o = pair-here o (pairBytes n ++ rest) (behind s (at + 4) (slotBytes q) (pairBytes n ++ rest) g) 0 n refl refl ∙ ap (pairAt s) z in
+        sym
+        (tag-9-in s at x p t (numberSlot q) n (slotWidth q) w (omega (arith, l, m)) (sym (b 1)) (sym (b 2)) (sym (b 3)) (slot-here s (at + 4) q (pairBytes n ++ rest) w g) f
+        ∙ tag-9 s at (omega (arith, l, m)) (first-here s at k h))
 
     tag-10-here : (x y z n : ℕ) → drop at s ≡ 10 ∷ x ∷ y ∷ z ∷ (pairBytes n ++ rest) → tagAt s at ≡ DifferenceOrRaise x y z n (at + 6)
     tag-10-here x y z n h =
@@ -142,7 +160,7 @@ module _ (s : List ℕ) where
   past-expr : (at : ℕ) (e : Expr) (rest : List ℕ) → drop at s ≡ exprBytes e ++ rest → drop (at + size e) s ≡ rest
   past-expr at e rest h = ap (λ (n : ℕ). drop (at + n) s) (sym (bytes-length e)) ∙ behind s at (exprBytes e) rest h
 
-  pub expr-stands : (at : ℕ) (e : Expr) (rest : List ℕ) → ConstantsFit e → drop at s ≡ exprBytes e ++ rest → ExprAt s at e
+  pub expr-stands : (at : ℕ) (e : Expr) (rest : List ℕ) → FieldsFit (versionOf s) e → drop at s ≡ exprBytes e ++ rest → ExprAt s at e
   expr-stands at (letConstant x i e) rest f h = (
     constant-here at (exprBytes e ++ rest) x i (f .0) h,
     expr-stands (at + 6) e rest (f .1) (next-here s at (1 ∷ x ∷ (valueBytes i ++ (exprBytes e ++ rest))) h 6),
@@ -155,7 +173,8 @@ module _ (s : List ℕ) where
       let n = next-here s at (4 ∷ (pairBytes g ++ (k ∷ c ∷ length ss ∷ (ss ++ rest)))) h 6 in
       (jump-here at rest g k c ss h, ap (take (length ss)) n ∙ take-append-seam ss rest)
   expr-stands at (resume k y) rest f h = resume-here at rest k y h
-  expr-stands at (handle c) rest f h = handle-here at rest c h
+  expr-stands at (handle c y) rest f h =
+      handle-here at rest c y (f .0) (h ∙ ap (λ (l : List ℕ). 6 ∷ c ∷ (l ++ rest)) (append-nil (slotBytes y)))
   expr-stands at (ifAtMost y z e₁ e₂) rest f h =
       let l = (exprBytes e₁ ++ exprBytes e₂) ++ rest in
       let n : drop (at + 5) s ≡ exprBytes e₁ ++ (exprBytes e₂ ++ rest) = next-here s at (7 ∷ y ∷ z ∷ (pairBytes (size e₁) ++ l)) h 5 ∙ append-assoc (exprBytes e₁) (exprBytes e₂) rest in (
@@ -170,20 +189,27 @@ module _ (s : List ℕ) where
         expr-stands (at + 5) e (exprBytes k ++ rest) (f .0) n,
         expr-stands (at + 5 + size e) k rest (f .1) (past-expr (at + 5) e (exprBytes k ++ rest) n),
       )
-  expr-stands at (letContinuationWithHandler x p t e c k) rest f h =
+  expr-stands at (letContinuationWithHandler x p t y e c k) rest f h =
       let r = pairBytes (size c) ++ (exprBytes c ++ exprBytes k) in
       let l = (exprBytes e ++ r) ++ rest in
-      let n : drop (at + 6) s ≡ exprBytes e ++ (r ++ rest) = next-here s at (9 ∷ x ∷ p ∷ t ∷ (pairBytes (size e) ++ l)) h 6 ∙ append-assoc (exprBytes e) r rest in
-      let o = at + 6 + size e in
-      let m : drop o s ≡ r ++ rest = past-expr (at + 6) e (r ++ rest) n in
+      let g : drop at s ≡ 9 ∷ x ∷ p ∷ t ∷ (slotBytes y ++ (pairBytes (size e) ++ l)) =
+      h ∙ ap (λ (m : List ℕ). 9 ∷ x ∷ p ∷ t ∷ m) (append-assoc (slotBytes y) (pairBytes (size e) ++ (exprBytes e ++ r)) rest) in
+      let i = at + 6 + slotWidth y in
+      let j : drop (at + 4 + slotWidth y) s ≡ pairBytes (size e) ++ l =
+      behind s (at + 4) (slotBytes y) (pairBytes (size e) ++ l) (next-here s at (9 ∷ x ∷ p ∷ t ∷ (slotBytes y ++ (pairBytes (size e) ++ l))) g 4) in
+      let a : at + 4 + slotWidth y + 2 ≡ i = omega arith in
+      let n : drop i s ≡ exprBytes e ++ (r ++ rest) =
+      ap (λ (m : ℕ). drop m s) (sym a) ∙ next-here s (at + 4 + slotWidth y) (pairBytes (size e) ++ l) j 2 ∙ append-assoc (exprBytes e) r rest in
+      let o = i + size e in
+      let m : drop o s ≡ r ++ rest = past-expr i e (r ++ rest) n in
       let q : o + 0 ≡ o = omega arith in
       let z : pairAt s o ≡ size c = ap (pairAt s) (sym q) ∙ sym (pair-here o (r ++ rest) m 0 (size c) refl refl) in
       let d : drop (o + 2) s ≡ exprBytes c ++ (exprBytes k ++ rest) = next-here s o (r ++ rest) m 2 ∙ append-assoc (exprBytes c) (exprBytes k) rest in (
-        tag-9-here at l x p t (size e) h,
+        tag-9-here at l x p t y (size e) (f .0) g,
         z,
-        expr-stands (at + 6) e (r ++ rest) (f .0) n,
-        expr-stands (o + 2) c (exprBytes k ++ rest) (f .1 .0) d,
-        expr-stands (o + 2 + size c) k rest (f .1 .1) (past-expr (o + 2) c (exprBytes k ++ rest) d),
+        expr-stands i e (r ++ rest) (f .1 .0) n,
+        expr-stands (o + 2) c (exprBytes k ++ rest) (f .1 .1 .0) d,
+        expr-stands (o + 2 + size c) k rest (f .1 .1 .1) (past-expr (o + 2) c (exprBytes k ++ rest) d),
       )
   expr-stands at (letDifferenceOrRaise x y z r e) rest f h =
       let l = (exprBytes r ++ exprBytes e) ++ rest in
@@ -193,7 +219,7 @@ module _ (s : List ℕ) where
         expr-stands (at + 6 + size r) e rest (f .1) (past-expr (at + 6) r (exprBytes e ++ rest) n),
       )
 
-  pub code-stands : (at : ℕ) (Q : Code) (rest : List ℕ) → All (λ D. ConstantsFit (D .body)) Q → drop at s ≡ joined targetBytes Q ++ rest → CodeAt s at Q
+  pub code-stands : (at : ℕ) (Q : Code) (rest : List ℕ) → All (λ D. FieldsFit (versionOf s) (D .body)) Q → drop at s ≡ joined targetBytes Q ++ rest → CodeAt s at Q
   code-stands at [] rest f h = tt
   code-stands at (D ∷ Q) rest f h =
       let b = exprBytes (D .body) in

@@ -12,7 +12,7 @@ use Rattle.parsing.specs.declared.Scan.{Scan}
 use Rattle.parsing.specs.declared.Scan.the-variants.{Past, Stopped}
 use Rattle.parsing.specs.declared.Count.the-variants.{Is, Outside}
 use Rattle.parsing.specs.Parser.{refusal, Parsed, read, refuse, andThen, many, pastOf}
-use Rattle.parsing.specs.Fields.{cut, head, count, counted, ended}
+use Rattle.parsing.specs.Fields.{cut, IsVersion, versionOf, head, count, counted, ended}
 use Rattle.parsing.specs.ParserLaws.{past-read, past-refuse, sequence, count-is, count-outside, read-count}
 use Rattle.parsing.specs.BytesAtLaws.{BytesAt, read-head, past-head}
 use Rattle.target_tags.specs.Tag.{fileLimit, pairAt}
@@ -102,7 +102,7 @@ module _ (names : Bool) (ps s : List ℕ) (at : ℕ) where
       g ∙ ap (λ l. pastOf (sized (expression names ps 0 l) s (at + 1))) f
       ∙ rw (count-is 0 32 s at e) (go (sized (expression names ps 0 (entryKinds p)) s (at + 1)))
     where
-      go : (x : Parsed Expr) → pastOf x ≡ pastOf {A = Target} (andThen x (λ e m. read (record { params = p; body = e }) m))
+      go : (x : Parsed Expr) → pastOf x ≡ pastOf {A = Target} (andThen x (λ e m. read (record { version = versionOf s; params = p; body = e }) m))
       go (read e m) = refl
       go (refuse r) = refl
 
@@ -138,11 +138,15 @@ module _ (names : Bool) (ps s : List ℕ) where
           go Q (read u k) = refl
           go Q (refuse r) = refl
 
-  -- A file that was read: its limit, its head, and what stands behind it.
+  -- A file that was read: its limit, its head with its version, and what stands behind it.
   pub read-code : {Q : Code} {next : ℕ} → code names ps s 0 ≡ read Q next
-      → (length s ≤ fileLimit) × BytesAt s 0 5 (spc ++ 1 ∷ 0 ∷ []) × (targets names ps s 5 ≡ read Q next)
+      → (length s ≤ fileLimit) × BytesAt s 0 5 (spc ++ versionOf s ∷ 0 ∷ []) × (targets names ps s 5 ≡ read Q next) × IsVersion (versionOf s)
   unfolding code
   read-code {Q} {next} e =
       let a = sequence (head spc fileLimit s 0) (λ u m. targets names ps s m) e in
-      let h = read-head s spc fileLimit (a .reads) in
-      (h .0, subst (λ (m : ℕ). BytesAt s 0 m (spc ++ 1 ∷ 0 ∷ [])) (h .1 .past) (h .1), subst (λ (m : ℕ). targets names ps s m ≡ read Q next) (h .1 .past) (a .follows))
+      let h = read-head s spc fileLimit (a .reads) in (
+        h .0,
+        subst (λ (m : ℕ). BytesAt s 0 m (spc ++ versionOf s ∷ 0 ∷ [])) (h .1 .past) (h .1),
+        subst (λ (m : ℕ). targets names ps s m ≡ read Q next) (h .1 .past) (a .follows),
+        h .2,
+      )

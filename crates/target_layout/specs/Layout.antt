@@ -7,7 +7,7 @@ use lib.Dec.{leb}
 use Rattle.semantics.specs.Code.{Target, Code}
 use Rattle.parsing.specs.Refusals.{outOfRange}
 use Rattle.parsing.specs.Parser.{refusal, read, refuse, Parser, give, andThen, _>>=_, many}
-use Rattle.parsing.specs.Fields.{head, count, ended}
+use Rattle.parsing.specs.Fields.{versionOf, head, count, ended}
 use Rattle.target_tags.specs.Tag.{fileLimit, maxParameters}
 use Rattle.target_slots.specs.Slots.{entryKinds}
 use Rattle.target_parts.specs.Parts.{pair, sized}
@@ -21,12 +21,12 @@ spc = 83 ∷ 80 ∷ 67 ∷ []
 abbrev pub maxFunctions : ℕ
 maxFunctions = 2048
 
--- "Each function: parameter count (0 to 32), body length (16 bits), body."
+-- "Each function: parameter count (0 to 32), body length (16 bits), body." It has the version of its file.
 unfoldable pub function : Bool → List ℕ → Parser Target
 function names ps = do
   p ← count 0 maxParameters
   e ← sized (expression names ps 0 (entryKinds p))
-  give (record { params = p; body = e })
+  λ s next. read (record { version = versionOf s; params = p; body = e }) next
 
 -- "function count (16 bits, 1 to 2,048)"
 unfoldable pub functions : Parser ℕ
@@ -42,7 +42,7 @@ targets names ps = do
   _ ← ended
   give Q
 
--- "Mark `SPC`, version (16 bits, 1)", and the functions.
+-- "Mark `SPC`, version (16 bits, 1)", or 2 (document 02, Slip 7), and the functions.
 unfoldable pub code : Bool → List ℕ → Parser Code
 code names ps = do
   _ ← head spc fileLimit

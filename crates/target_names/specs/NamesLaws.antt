@@ -1,6 +1,7 @@
 -- Laws of the names in a node, as the functions that judge them meet them.
 use Prim.Native.Nat.{ℕ, zero, suc, _+_, _-_, _≤_, _<_}
 use mathlib.Core.Path.{_≡_, refl, subst}
+use mathlib.Core.Bool.{Bool, true}
 use mathlib.Core.List.{List, [], _∷_}
 use native.Mathlib.Omega.{arith}
 use denote.Enum.Declared.{tagOf}
@@ -9,31 +10,37 @@ use lib.ListN.{length, getD}
 use Rattle.parsing.specs.declared.Refusal.{Refusal}
 use Rattle.parsing.specs.declared.Checked.{Checked}
 use Rattle.parsing.specs.declared.Checked.the-variants.{Accepted, Refused}
-use Rattle.parsing.specs.Parser.{accepted, refused, verdictOf}
+use Rattle.parsing.specs.Parser.{Verdict, accepted, refused, verdictOf}
+use Rattle.parsing.specs.Fields.{versionOf}
 use Rattle.target_tags.proofs.tag.Tag.{the-type}
 use Rattle.target_tags.specs.declared.tag.Tag.{Tag}
 use Rattle.target_tags.specs.declared.tag.Tag.the-variants.{Jump}
-use Rattle.target_tags.specs.Tag.{tagAt}
+use Rattle.target_tags.specs.Tag.{slotsIn, tagAt}
 use Rattle.target_tags.specs.ViewLaws.{View, isConstant, isCopy, isDifference, isJump, isResume, isHandle, isBranch, isContinuation, isBoth, isDifferenceOrRaise, isRefused, seen}
 use Rattle.target_slots.specs.Slots.{reads}
 use Rattle.target_names.specs.Standing.{NoJump}
-use Rattle.target_names.specs.Names.{values}
+use Rattle.target_names.specs.Names.{values, namesOf, judged}
 
 -- The first of several values, and the others.
-module _ (ks s : List ℕ) (at x : ℕ) (is : x ≡ getD s at 0) {c : Checked} (judged : verdictOf c ≡ reads ks 1 at x) where
-  pub values-stop : (n : ℕ) (r : Refusal) → 0 < n → c ≡ Refused r → refused (r .number) (r .place) ≡ values ks s at n
+module _ (m : ℕ) (ks s : List ℕ) (at x : ℕ) (is : x ≡ getD s at 0) {c : Checked} (judged : verdictOf c ≡ reads m ks 1 at x) where
+  pub values-stop : (n : ℕ) (r : Refusal) → 0 < n → c ≡ Refused r → refused (r .number) (r .place) ≡ values m ks s at n
   values-stop zero r h e = absurd (omega arith)
   values-stop (suc n) r h e = rw (← is, ← judged, e)
 
-  pub values-on : (n : ℕ) → 0 < n → c ≡ Accepted → values ks s (at + 1) (n - 1) ≡ values ks s at n
+  pub values-on : (n : ℕ) → 0 < n → c ≡ Accepted → values m ks s (at + 1) (n - 1) ≡ values m ks s at n
   values-on zero h e = absurd (omega arith)
   values-on (suc n) h e =
       let p : suc n - 1 ≡ n = omega arith in
       rw (← is, ← judged, e, p)
 
-pub values-none : (ks s : List ℕ) (at n : ℕ) → n ≤ 0 → accepted ≡ values ks s at n
-values-none ks s at zero h = refl
-values-none ks s at (suc n) h = absurd (omega arith)
+pub values-none : (m : ℕ) (ks s : List ℕ) (at n : ℕ) → n ≤ 0 → accepted ≡ values m ks s at n
+values-none m ks s at zero h = refl
+values-none m ks s at (suc n) h = absurd (omega arith)
+
+-- Names that are judged, with the slots of the file's version.
+pub judged-right : (names : Bool) (ps ks s : List ℕ) (at : ℕ) (t : Tag) {m : ℕ} {v : Verdict} → names ≡ true → m ≡ slotsIn (versionOf s) → v ≡ namesOf m ps ks s at t → v ≡ judged names ps ks s at t
+unfolding judged
+judged-right names ps ks s at t on is e = rw (on, ← is) e
 
 -- A node that is no jump (the keys of the enum, from 0).
 pub no-jump : (t : Tag) → OneOf (0 ∷ 1 ∷ 2 ∷ 4 ∷ 5 ∷ 6 ∷ 7 ∷ 8 ∷ 9 ∷ 10 ∷ []) (tagOf the-type t) → NoJump t

@@ -46,10 +46,10 @@ fieldsEnd (Copy x y next) = Past next
 fieldsEnd (Difference x y z next) = Past next
 fieldsEnd (Jump g k h n next) = Past next
 fieldsEnd (Resume k y next) = Past next
-fieldsEnd (Handle h next) = Past next
+fieldsEnd (Handle h y next) = Past next
 fieldsEnd (Branch y z n next) = Past next
 fieldsEnd (Continuation x p n next) = Past next
-fieldsEnd (ContinuationWithHandler x p t n next) = Past next
+fieldsEnd (ContinuationWithHandler x p t q n next) = Past next
 fieldsEnd (DifferenceOrRaise x y z n next) = Past next
 fieldsEnd (Refused r) = Stopped r
 
@@ -60,10 +60,10 @@ followsAt (Copy x y next) m = Bound m x
 followsAt (Difference x y z next) m = Bound m x
 followsAt (Jump g k h n next) m = Ended m
 followsAt (Resume k y next) m = Ended m
-followsAt (Handle h next) m = Ended m
+followsAt (Handle h y next) m = Ended m
 followsAt (Branch y z n next) m = Onward m
 followsAt (Continuation x p n next) m = Bound m p
-followsAt (ContinuationWithHandler x p t n next) m = Bound m p
+followsAt (ContinuationWithHandler x p t q n next) m = Bound m p
 followsAt (DifferenceOrRaise x y z n next) m = Bound m x
 followsAt (Refused r) m = Halted r
 

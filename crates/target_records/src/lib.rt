@@ -1,2 +1,2 @@
-// What a translated file says of a record: its parameter slot, its body and its handler body.
+// What a translated file says of a record: its parameter slot, its body, its handler body and the handler parameter slot.
 pub mod parts;

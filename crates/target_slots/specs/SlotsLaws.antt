@@ -10,14 +10,14 @@ use Rattle.parsing.specs.Parser.{refused, refusedUnless}
 use Rattle.target_slots.specs.Slots.{kindRefusal, binds, reads, bound, entryKinds}
 
 -- A slot that is read, within the slots that there are and beyond them.
-module _ (ks : List ℕ) (k place x : ℕ) where
-  pub reads-within : {n : ℕ} → x < 36 → n ≡ kindRefusal k (getD ks x 0) → refusedUnless (eqb (getD ks x 0) k) n place ≡ reads ks k place x
+module _ (m : ℕ) (ks : List ℕ) (k place x : ℕ) where
+  pub reads-within : {b n : ℕ} → x < m → b ≡ getD ks x 0 → n ≡ kindRefusal k b → refusedUnless (eqb b k) n place ≡ reads m ks k place x
   unfolding reads binds
-  reads-within h e = rw (lt-ltb x 36 h, e)
+  reads-within h is e = rw (lt-ltb x m h, e, is)
 
-  pub reads-beyond : 36 ≤ x → reads ks k place x ≡ refused 13 place
+  pub reads-beyond : m ≤ x → reads m ks k place x ≡ refused 13 place
   unfolding reads binds
-  reads-beyond h = rw (le-ltb x 36 h)
+  reads-beyond h = rw (le-ltb x m h)
 
 pub entry-more : (n : ℕ) (ks new : List ℕ) → ks ≡ entryKinds n → new ≡ bound ks (2 + n) 1 → new ≡ entryKinds (n + 1)
 unfolding entryKinds

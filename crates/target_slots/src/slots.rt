@@ -4,11 +4,13 @@ use parsing::Refusal;
 use parsing::refusals;
 use parsing::refused_unless;
 use target_tags::tag::MAX_SLOTS;
+use target_tags::tag::NumberSlot;
 ghost use mathlib.Core.Path.{_≡_};
 ghost use Prim.Native.Nat.{_≤_};
+ghost use lib.ListN.{getD};
 ghost use Rattle.parsing.specs.Parser.{verdictOf};
 ghost use Rattle.target_tags.specs.Tag.{maxParameters};
-ghost use Rattle.target_slots.specs.Slots.{kindRefusal, binds, reads, differ, bound, entryKinds};
+ghost use Rattle.target_slots.specs.Slots.{unboundKind, kindRefusal, binds, reads, differ, bound, boundNumber, entryKinds};
 
 // The kinds of slots.
 pub const UNBOUND_KIND: u8 = 0;
@@ -19,11 +21,11 @@ pub const CONTINUATION_KIND: u8 = 2;
 
 pub const HANDLER_KIND: u8 = 3;
 
-// A slot that is bound.
-pub fn binds_slot(slot: usize, place: usize) -> Checked
-    ensures { λ r. ⌜ verdictOf r ≡ binds place slot ⌝ }
+// A slot that is bound, where there are so many slots.
+pub fn binds_slot(slots: usize, slot: usize, place: usize) -> Checked
+    ensures { λ r. ⌜ verdictOf r ≡ binds slots place slot ⌝ }
 {
-    refused_unless(slot < MAX_SLOTS, refusals::WRONG_SLOT, place)
+    refused_unless(slot < slots, refusals::WRONG_SLOT, place)
 }
 
 // The number told for a slot of another kind than the one needed.
@@ -42,12 +44,28 @@ fn kind_refusal(needed: u8, bound: u8) -> u8
     refusals::NOT_HANDLER
 }
 
-// A slot that is read as one of a kind.
-pub fn reads_slot(kinds: [u8; MAX_SLOTS], kind: u8, slot: usize, place: usize) -> Checked
-    ensures { λ r. ⌜ verdictOf r ≡ reads kinds kind place slot ⌝ }
+// The kind of a slot.
+fn kind_of(kinds: [u8; MAX_SLOTS], slot: usize) -> u8
+    ensures { λ r. ⌜ r ≡ getD kinds slot unboundKind ⌝ }
 {
     if slot < MAX_SLOTS {
-        let bound = kinds[slot];
+        return kinds[slot];
+    }
+    UNBOUND_KIND
+}
+
+// A slot that is read as one of a kind, where there are so many slots.
+pub fn reads_slot(
+    slots: usize,
+    kinds: [u8; MAX_SLOTS],
+    kind: u8,
+    slot: usize,
+    place: usize,
+) -> Checked
+    ensures { λ r. ⌜ verdictOf r ≡ reads slots kinds kind place slot ⌝ }
+{
+    if slot < slots {
+        let bound = kind_of(kinds, slot);
         return refused_unless(bound == kind, kind_refusal(kind, bound), place);
     }
     Checked::Refused(Refusal {
@@ -72,6 +90,16 @@ pub fn bind(kinds: [u8; MAX_SLOTS], slot: usize, kind: u8) -> [u8; MAX_SLOTS]
         new[slot] = kind;
     }
     new
+}
+
+// The kinds with a number's slot bound, if there is one.
+pub fn bind_number(kinds: [u8; MAX_SLOTS], number: NumberSlot) -> [u8; MAX_SLOTS]
+    ensures { λ r. ⌜ r ≡ boundNumber kinds number ⌝ }
+{
+    match number {
+        NumberSlot::At(slot) => bind(kinds, slot, WHOLE_KIND),
+        NumberSlot::Absent => kinds,
+    }
 }
 
 // The kinds with which a function begins.

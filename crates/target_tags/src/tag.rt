@@ -5,18 +5,24 @@ use parsing::Refusal;
 use parsing::refusals;
 ghost use mathlib.Core.Path.{_≡_};
 ghost use lib.ListN.{length};
-ghost use Prim.Native.Nat.{_+_, _*_, _<_};
-ghost use Rattle.parsing.specs.Fields.{cut};
-ghost use Rattle.target_tags.specs.Tag.{tagAt, constantAt, copyAt, differenceAt, jumpAt, resumeAt, handleAt, branchAt, continuationAt, continuationWithHandlerAt, differenceOrRaiseAt};
+ghost use Prim.Native.Nat.{_+_, _*_, _≤_, _<_};
+ghost use Rattle.parsing.specs.Fields.{cut, versionOf};
+ghost use Rattle.target_tags.specs.Tag.{slotsIn, numberWidth, numberSlotAt, tagAt, constantAt, copyAt, differenceAt, jumpAt, resumeAt, handleAt, branchAt, continuationAt, continuationWithHandlerAt, differenceOrRaiseAt};
 
-// "Slots are 0 to 35."
-pub const MAX_SLOTS: usize = 36;
+// The slots of either version: "Slots are 0 to 35.", in version 2 0 to 36.
+pub const MAX_SLOTS: usize = 37;
 
 // "15 file above its limit (.. translated 65,535 ..)."
 pub const FILE_LIMIT: usize = 65535;
 
 // "Parameter count (0 to 32)": values of a jump at most.
 pub const MAX_PARAMETERS: usize = 32;
+
+// The slot of a number raised, which files of version 2 have: the value slot of tag 6, the handler parameter slot of tag 9.
+pub enum NumberSlot {
+    At(usize),
+    Absent,
+}
 
 // A node as it stands in the file: its fields, and the offset past them. Its names are not judged here.
 pub enum Tag {
@@ -50,6 +56,7 @@ pub enum Tag {
     },
     Handle {
         handler: usize,
+        value: NumberSlot,
         next: usize,
     },
     Branch {
@@ -68,6 +75,7 @@ pub enum Tag {
         slot: usize,
         parameter: usize,
         handler: usize,
+        number: NumberSlot,
         size: usize,
         next: usize,
     },
@@ -79,6 +87,37 @@ pub enum Tag {
         next: usize,
     },
     Refused(Refusal),
+}
+
+// The number of slots that a file's version has.
+pub fn slots_of(file: &[u8]) -> usize
+    ensures { λ r. ⌜ r ≡ slotsIn (versionOf (now (file .entry))) ⌝ }
+{
+    if parsing::version_of(file) == 2 {
+        return 37;
+    }
+    36
+}
+
+// The bytes of a number's slot.
+pub fn number_width(file: &[u8]) -> usize
+    ensures { λ r. ⌜ r ≡ numberWidth (versionOf (now (file .entry))) ⌝ }
+{
+    if parsing::version_of(file) == 2 {
+        return 1;
+    }
+    0
+}
+
+// The slot of a number that stands at an offset.
+pub fn number_slot_at(file: &[u8], at: usize) -> NumberSlot
+    requires { ⌜ at + numberWidth (versionOf (now file)) ≤ length (now file) ⌝ }
+    ensures { λ r. ⌜ r ≡ numberSlotAt (now (file .entry)) at ⌝ }
+{
+    if parsing::version_of(file) == 2 {
+        return NumberSlot::At(byte_number(file[at]));
+    }
+    NumberSlot::Absent
 }
 
 fn cut(file: &[u8]) -> Tag
@@ -183,12 +222,18 @@ fn handle_at(file: &[u8], at: usize) -> Tag
     requires { ⌜ at < length (now file) ⌝ }
     ensures { λ r. ⌜ r ≡ handleAt (now (file .entry)) at ⌝ }
 {
-    let next = at + 2;
+    let place = at + 2;
+    let next = place + number_width(file);
     if file.len() < next {
         return cut(file);
     }
     let handler = byte_number(file[at + 1]);
-    Tag::Handle { handler, next }
+    let value = number_slot_at(file, place);
+    Tag::Handle {
+        handler,
+        value,
+        next,
+    }
 }
 
 fn branch_at(file: &[u8], at: usize) -> Tag
@@ -235,19 +280,24 @@ fn continuation_with_handler_at(file: &[u8], at: usize) -> Tag
     requires { ⌜ at < length (now file) ⌝ }
     ensures { λ r. ⌜ r ≡ continuationWithHandlerAt (now (file .entry)) at ⌝ }
 {
-    let next = at + 6;
+    let width = number_width(file);
+    let own = at + 6;
+    let next = own + width;
     if file.len() < next {
         return cut(file);
     }
     let slot = byte_number(file[at + 1]);
     let parameter = byte_number(file[at + 2]);
     let handler = byte_number(file[at + 3]);
-    let field = at + 4;
+    let place = at + 4;
+    let number = number_slot_at(file, place);
+    let field = place + width;
     let size = pair(file[field], file[field + 1]);
     Tag::ContinuationWithHandler {
         slot,
         parameter,
         handler,
+        number,
         size,
         next,
     }

@@ -4,6 +4,8 @@ use native.Mathlib.Omega.{arith}
 use lib.ListN.{length}
 use borrow.Author.Needs.{needs}
 use Rattle.parsing.specs.Parser.{pastOf}
+use Rattle.parsing.specs.Fields.{versionOf}
+use Rattle.target_tags.specs.TagLaws.{width-bound}
 use Rattle.target_parts.specs.PartsLaws.{level-accepted}
 use Rattle.target_expressions.specs.Expressions.{expression}
 use Rattle.target_expressions.specs.Ends.{partsEnd}
@@ -33,6 +35,8 @@ use Rattle.target_parts.proofs.parts.level_checked.Reads as level-checked-reads
 use Rattle.target_parts.proofs.parts.measured_end.Reads as measured-end-reads
 use Rattle.target_parts.proofs.parts.size_at.Reads as size-at-reads
 use Rattle.target_slots.proofs.slots.bind.Reads as bind-reads
+use Rattle.target_slots.proofs.slots.bind_number.Reads as bind-number-reads
+use Rattle.target_tags.proofs.tag.number_width.Reads as number-width-reads
 use Rattle.target_tags.proofs.tag.tag_at.Reads as tag-at-reads
 use Rattle.target_expressions.proofs.expressions.+continuation_with_handler_end+expression_end+node_end+part_end+parts_end.{
   statement,
@@ -111,7 +115,7 @@ parts-end-below t =
 
 -- What each member is told of its callees, by the cycle's measure t.
 abbrev continuation-with-handler-end-claims : ℕ → continuation-with-handler-end-lts.Claims
-continuation-with-handler-end-claims t = (bind-reads.Asked, bind-reads.Learnt, part-end-below t, part-end.Post, size-at-reads.Asked, size-at-reads.Learnt)
+continuation-with-handler-end-claims t = (bind-number-reads.Asked, bind-number-reads.Learnt, bind-reads.Asked, bind-reads.Learnt, number-width-reads.Asked, number-width-reads.Learnt, part-end-below t, part-end.Post, size-at-reads.Asked, size-at-reads.Learnt)
 
 abbrev expression-end-claims : ℕ → expression-end-lts.Claims
 expression-end-claims t = (tag-at-reads.Asked, tag-at-reads.Learnt, node-end-below t, node-end.Post, bind-reads.Asked, bind-reads.Learnt)
@@ -125,20 +129,31 @@ part-end-claims t = (level-checked-reads.Asked, level-checked-reads.Learnt, expr
 abbrev parts-end-claims : ℕ → parts-end-lts.Claims
 parts-end-claims t = (part-end-below t, part-end.Post, bind-reads.Asked, bind-reads.Learnt, continuation-with-handler-end-below t, continuation-with-handler-end.Post, fields-end-reads.Asked, fields-end-reads.Learnt)
 
+continuation-with-handler-end-bind-number-requires : (t : ℕ) → continuation-with-handler-end-lts.Need-bind-number-requires (continuation-with-handler-end-claims t) (continuation-with-handler-end-at t) continuation-with-handler-end.Post
+continuation-with-handler-end-bind-number-requires t c κs = tt
+
 continuation-with-handler-end-bind-requires : (t : ℕ) → continuation-with-handler-end-lts.Need-bind-requires (continuation-with-handler-end-claims t) (continuation-with-handler-end-at t) continuation-with-handler-end.Post
 continuation-with-handler-end-bind-requires t c κs = tt
 
 continuation-with-handler-end-bind-requires-2 : (t : ℕ) → continuation-with-handler-end-lts.Need-bind-requires-2 (continuation-with-handler-end-claims t) (continuation-with-handler-end-at t) continuation-with-handler-end.Post
 continuation-with-handler-end-bind-requires-2 t c κs = tt
 
-continuation-with-handler-end-add-part-end : (t : ℕ) → continuation-with-handler-end-lts.Need-add-part-end (continuation-with-handler-end-claims t) (continuation-with-handler-end-at t) continuation-with-handler-end.Post
-continuation-with-handler-end-add-part-end t c =
-    let entry = c .before .before .before .before in
+continuation-with-handler-end-add-last : (t : ℕ) → continuation-with-handler-end-lts.Need-add-last (continuation-with-handler-end-claims t) (continuation-with-handler-end-at t) continuation-with-handler-end.Post
+continuation-with-handler-end-add-last t c =
+    let entry = c .before .before .before .before .before in
     let p = entry .pre .1 in omega (arith, p .0, p .1 .0, p .1 .1)
+
+continuation-with-handler-end-number-width-requires : (t : ℕ) → continuation-with-handler-end-lts.Need-number-width-requires (continuation-with-handler-end-claims t) (continuation-with-handler-end-at t) continuation-with-handler-end.Post
+continuation-with-handler-end-number-width-requires t c κs = tt
+
+continuation-with-handler-end-add-place : (t : ℕ) → continuation-with-handler-end-lts.Need-add-place (continuation-with-handler-end-claims t) (continuation-with-handler-end-at t) continuation-with-handler-end.Post
+continuation-with-handler-end-add-place t c =
+    let entry = c .before .before .before .before .before .before in
+    let p = entry .pre .1 in omega (arith, p .0, p .1 .0, p .1 .1, c .number-width .ensures, width-bound (versionOf (entry .args .file .now)))
 
 continuation-with-handler-end-part-end-requires : (t : ℕ) → continuation-with-handler-end-lts.Need-part-end-requires (continuation-with-handler-end-claims t) (continuation-with-handler-end-at t) continuation-with-handler-end.Post
 continuation-with-handler-end-part-end-requires t c κs =
-    let entry = c .before .before .before .before in
+    let entry = c .before .before .before .before .before .before in
     let q = entry .pre .0 in
     let p = entry .pre .1 in
     (omega (arith, q, p .1 .0, p .1 .1), p .0)
@@ -158,11 +173,11 @@ continuation-with-handler-end-enum-known-r-2 t c = search needs
 continuation-with-handler-end-enum-known-n : (t : ℕ) → continuation-with-handler-end-lts.Need-enum-known-n (continuation-with-handler-end-claims t) (continuation-with-handler-end-at t) continuation-with-handler-end.Post
 continuation-with-handler-end-enum-known-n t c = search needs
 
-continuation-with-handler-end-add-part-end-2 : (t : ℕ) → continuation-with-handler-end-lts.Need-add-part-end-2 (continuation-with-handler-end-claims t) (continuation-with-handler-end-at t) continuation-with-handler-end.Post
-continuation-with-handler-end-add-part-end-2 t c =
+continuation-with-handler-end-add-part-end : (t : ℕ) → continuation-with-handler-end-lts.Need-add-part-end (continuation-with-handler-end-claims t) (continuation-with-handler-end-at t) continuation-with-handler-end.Post
+continuation-with-handler-end-add-part-end t c =
     let at-middle = c .before .before .before .before .before in
     let at-part-end = at-middle .before .before in
-    let entry = at-part-end .before .before .before .before .before in
+    let entry = at-part-end .before .before .before .before .before .before .before in
     let w = part-past _ _ _ _ _ _ _ _ _ (sym (at-part-end .part-end .ensures) ∙ at-middle .middle .given .1) in
     omega (arith, entry .pre .1 .0, w .inside)
 
@@ -170,7 +185,7 @@ continuation-with-handler-end-part-end-requires-2 : (t : ℕ) → continuation-w
 continuation-with-handler-end-part-end-requires-2 t c κs =
     let at-middle = c .before .before .before .before .before in
     let at-part-end = at-middle .before .before in
-    let entry = at-part-end .before .before .before .before .before in
+    let entry = at-part-end .before .before .before .before .before .before .before in
     let q = entry .pre .0 in
     let p = entry .pre .1 in
     let w = part-past _ _ _ _ _ _ _ _ _ (sym (at-part-end .part-end .ensures) ∙ at-middle .middle .given .1) in
@@ -179,18 +194,20 @@ continuation-with-handler-end-part-end-requires-2 t c κs =
 continuation-with-handler-end-returns : (t : ℕ) → continuation-with-handler-end-lts.Need-returns (continuation-with-handler-end-claims t) (continuation-with-handler-end-at t) continuation-with-handler-end.Post
 continuation-with-handler-end-returns t c =
     let at-part-end = c .before .before .before in
-    let at-bind2 = at-part-end .before in
+    let at-number-width = at-part-end .before in
+    let at-bind2 = at-number-width .before in
     let at-bind = at-bind2 .before in
-    rest-stopped _ _ _ _ _ _ _ _ _ _ _ _ (at-bind .bind .ensures) (at-bind2 .bind2 .ensures) _ (sym (at-part-end .part-end .ensures) ∙ c .before .r .given .1)
+    rest-stopped _ _ _ _ _ _ _ _ _ _ _ _ _ _ (at-number-width .number-width .ensures) (at-bind .bind .ensures) (at-bind2 .bind2 .ensures) _ (sym (at-part-end .part-end .ensures) ∙ c .before .r .given .1)
 
 continuation-with-handler-end-returns-2 : (t : ℕ) → continuation-with-handler-end-lts.Need-returns-2 (continuation-with-handler-end-claims t) (continuation-with-handler-end-at t) continuation-with-handler-end.Post
 continuation-with-handler-end-returns-2 t c =
     let at-size-at = c .before .before .before in
     let at-middle = at-size-at .before .before in
     let at-part-end = at-middle .before .before in
-    let at-bind2 = at-part-end .before in
+    let at-number-width = at-part-end .before in
+    let at-bind2 = at-number-width .before in
     let at-bind = at-bind2 .before in
-    handler-outside _ _ _ _ _ _ _ _ _ _ _ _ (at-bind .bind .ensures) (at-bind2 .bind2 .ensures) _ (sym (at-part-end .part-end .ensures) ∙ at-middle .middle .given .1) _
+    handler-outside _ _ _ _ _ _ _ _ _ _ _ _ _ _ (at-number-width .number-width .ensures) (at-bind .bind .ensures) (at-bind2 .bind2 .ensures) _ (sym (at-part-end .part-end .ensures) ∙ at-middle .middle .given .1) _
     (sym (at-size-at .size-at .ensures) ∙ c .before .r2 .given .1)
 
 continuation-with-handler-end-returns-3 : (t : ℕ) → continuation-with-handler-end-lts.Need-returns-3 (continuation-with-handler-end-claims t) (continuation-with-handler-end-at t) continuation-with-handler-end.Post
@@ -199,9 +216,10 @@ continuation-with-handler-end-returns-3 t c =
     let at-size-at = at-n .before .before in
     let at-middle = at-size-at .before .before in
     let at-part-end = at-middle .before .before in
-    let at-bind2 = at-part-end .before in
+    let at-number-width = at-part-end .before in
+    let at-bind2 = at-number-width .before in
     let at-bind = at-bind2 .before in
-    handler-in _ _ _ _ _ _ _ _ _ _ _ _ (at-bind .bind .ensures) (at-bind2 .bind2 .ensures) _ (sym (at-part-end .part-end .ensures) ∙ at-middle .middle .given .1) _
+    handler-in _ _ _ _ _ _ _ _ _ _ _ _ _ _ (at-number-width .number-width .ensures) (at-bind .bind .ensures) (at-bind2 .bind2 .ensures) _ (sym (at-part-end .part-end .ensures) ∙ at-middle .middle .given .1) _ _ (at-bind .before .bind-number .ensures)
     (sym (at-size-at .size-at .ensures) ∙ at-n .n .given .1) (c .part-end2 .ensures)
 
 abbrev expression-end-Inv-loop : expression-end-lts.InvT-loop
@@ -451,16 +469,19 @@ pub +continuation-with-handler-end+expression-end+node-end+part-end+parts-end-sp
     (λ t. continuation-with-handler-end-lts.spec (continuation-with-handler-end-claims t)
     (continuation-with-handler-end-at t)
     continuation-with-handler-end.Post
+    (continuation-with-handler-end-bind-number-requires t)
     (continuation-with-handler-end-bind-requires t)
     (continuation-with-handler-end-bind-requires-2 t)
-    (continuation-with-handler-end-add-part-end t)
+    (continuation-with-handler-end-add-last t)
+    (continuation-with-handler-end-number-width-requires t)
+    (continuation-with-handler-end-add-place t)
     (continuation-with-handler-end-part-end-requires t)
     (continuation-with-handler-end-enum-known-r t)
     (continuation-with-handler-end-enum-known-middle t)
     (continuation-with-handler-end-size-at-requires t)
     (continuation-with-handler-end-enum-known-r-2 t)
     (continuation-with-handler-end-enum-known-n t)
-    (continuation-with-handler-end-add-part-end-2 t)
+    (continuation-with-handler-end-add-part-end t)
     (continuation-with-handler-end-part-end-requires-2 t)
     (continuation-with-handler-end-returns t)
     (continuation-with-handler-end-returns-2 t)

@@ -36,7 +36,7 @@ returns c =
     let at-reads-values = c .before in
     let at-names-jump = at-reads-values .before in
     joined-answers (at-names-jump .names-jump .result) (at-reads-values .reads-values .result) (c .or-else .result) (at-names-jump .names-jump .ensures) (at-reads-values .reads-values .ensures) (c .or-else .ensures)
-    ∙ sym (ap (namesOf _ _ _ _) (at-names-jump .before .before .tag .given .1))
+    ∙ sym (ap (namesOf _ _ _ _ _) (at-names-jump .before .before .tag .given .1))
 
 returns-2 : tie.Need-returns-2
 returns-2 c = c .names-of-slots .ensures _ _

@@ -38,11 +38,8 @@ names-resume-requires c κs = search needs
 enum-known-tag-5 : tie.Need-enum-known-tag-5
 enum-known-tag-5 c = search needs
 
-add-reads-slot : tie.Need-add-reads-slot
-add-reads-slot c = search needs
-
-reads-slot-requires : tie.Need-reads-slot-requires
-reads-slot-requires c κs = search needs
+names-handle-requires : tie.Need-names-handle-requires
+names-handle-requires c κs = search needs
 
 enum-known-tag-6 : tie.Need-enum-known-tag-6
 enum-known-tag-6 c = search needs
@@ -73,46 +70,46 @@ enum-told-2 c = search needs
 
 returns : tie.Need-returns
 unfolding namesOf
-returns c = λ ps s. c .binds-slot .ensures ∙ sym (ap (namesOf ps _ s _) (c .before .before .tag .given .1))
+returns c = λ ps s. c .binds-slot .ensures ∙ sym (ap (namesOf _ ps _ s _) (c .before .before .tag .given .1))
 
 returns-2 : tie.Need-returns-2
 unfolding namesOf
-returns-2 c = λ ps s. c .names-copy .ensures ∙ sym (ap (namesOf ps _ s _) (c .before .before .tag2 .given .1))
+returns-2 c = λ ps s. c .names-copy .ensures ∙ sym (ap (namesOf _ ps _ s _) (c .before .before .tag2 .given .1))
 
 returns-3 : tie.Need-returns-3
 unfolding namesOf
-returns-3 c = λ ps s. c .names-difference .ensures ∙ sym (ap (namesOf ps _ s _) (c .before .before .tag3 .given .1))
+returns-3 c = λ ps s. c .names-difference .ensures ∙ sym (ap (namesOf _ ps _ s _) (c .before .before .tag3 .given .1))
 
 returns-4 : tie.Need-returns-4
 returns-4 c = λ ps s. absurd (c .before .before .pre .1 _ _ _ _ _ (c .enum-told .given .1))
 
 returns-5 : tie.Need-returns-5
 unfolding namesOf
-returns-5 c = λ ps s. c .names-resume .ensures ∙ sym (ap (namesOf ps _ s _) (c .before .before .tag4 .given .1))
+returns-5 c = λ ps s. c .names-resume .ensures ∙ sym (ap (namesOf _ ps _ s _) (c .before .before .tag4 .given .1))
 
 returns-6 : tie.Need-returns-6
 unfolding namesOf
-returns-6 c = λ ps s. c .reads-slot .ensures ∙ sym (ap (namesOf ps _ s _) (c .before .before .tag5 .given .1))
+returns-6 c = λ ps s. c .names-handle .ensures ∙ sym (ap (namesOf _ ps _ s _) (c .before .before .tag5 .given .1))
 
 returns-7 : tie.Need-returns-7
 unfolding namesOf
-returns-7 c = λ ps s. c .names-branch .ensures ∙ sym (ap (namesOf ps _ s _) (c .before .before .tag6 .given .1))
+returns-7 c = λ ps s. c .names-branch .ensures ∙ sym (ap (namesOf _ ps _ s _) (c .before .before .tag6 .given .1))
 
 returns-8 : tie.Need-returns-8
 unfolding namesOf
-returns-8 c = λ ps s. c .names-continuation .ensures ∙ sym (ap (namesOf ps _ s _) (c .before .before .tag7 .given .1))
+returns-8 c = λ ps s. c .names-continuation .ensures ∙ sym (ap (namesOf _ ps _ s _) (c .before .before .tag7 .given .1))
 
 returns-9 : tie.Need-returns-9
 unfolding namesOf
-returns-9 c = λ ps s. c .names-continuation-with-handler .ensures ∙ sym (ap (namesOf ps _ s _) (c .before .before .tag8 .given .1))
+returns-9 c = λ ps s. c .names-continuation-with-handler .ensures ∙ sym (ap (namesOf _ ps _ s _) (c .before .before .tag8 .given .1))
 
 returns-10 : tie.Need-returns-10
 unfolding namesOf
-returns-10 c = λ ps s. c .names-difference2 .ensures ∙ sym (ap (namesOf ps _ s _) (c .before .before .tag9 .given .1))
+returns-10 c = λ ps s. c .names-difference2 .ensures ∙ sym (ap (namesOf _ ps _ s _) (c .before .before .tag9 .given .1))
 
 returns-11 : tie.Need-returns-11
 unfolding namesOf
-returns-11 c = λ ps s. sym (ap (namesOf ps _ s _) (c .enum-told2 .given .1))
+returns-11 c = λ ps s. sym (ap (namesOf _ ps _ s _) (c .enum-told2 .given .1))
 
 pub names-of-slots-spec : {M : Type 1} → statement M
 names-of-slots-spec =
@@ -129,8 +126,7 @@ names-of-slots-spec =
     enum-known-tag-4
     names-resume-requires
     enum-known-tag-5
-    add-reads-slot
-    reads-slot-requires
+    names-handle-requires
     enum-known-tag-6
     names-branch-requires
     enum-known-tag-7

@@ -9,11 +9,11 @@ use Rattle.target_names.proofs.names.reads_values.Statement.{statement}
 use Rattle.target_names.proofs.names.reads_values.Tie as tie
 
 abbrev Inv-loop : tie.InvT-loop
-Inv-loop file kinds start count at₀ left₀ at left =
-    (at + left ≤ length file) × (values kinds file at left ≡ values kinds file start count)
+Inv-loop file slots kinds start count at₀ left₀ at left =
+    (at + left ≤ length file) × (values slots kinds file at left ≡ values slots kinds file start count)
 
 abbrev μ-loop : tie.MeasureT-loop
-μ-loop file kinds start count at₀ left₀ at left = left
+μ-loop file slots kinds start count at₀ left₀ at left = left
 
 loop-holds : tie.Need-loop-holds Inv-loop μ-loop
 loop-holds c = (c .before .pre, refl)
@@ -39,7 +39,7 @@ returns c =
     let at-byte-number = at-reads-slot .before in
     let at-loop-test = at-byte-number .before .before in
     let at-loop = at-loop-test .before in
-    values-stop _ _ _ _ (at-byte-number .byte-number .ensures .0) (at-reads-slot .reads-slot .ensures) _ _ (at-loop-test .loop-test .taken) (c .before .r .given .1) ∙ at-loop .loop .inv .1
+    values-stop _ _ _ _ _ (at-byte-number .byte-number .ensures .0) (at-reads-slot .reads-slot .ensures) _ _ (at-loop-test .loop-test .taken) (c .before .r .given .1) ∙ at-loop .loop .inv .1
 
 enum-told : tie.Need-enum-told Inv-loop μ-loop
 enum-told c = search needs
@@ -56,10 +56,10 @@ loop-again c =
     let at-byte-number = at-reads-slot .before in
     let at-loop-test = at-byte-number .before .before in
     let at-loop = at-loop-test .before in
-    (omega arith, values-on _ _ _ _ (at-byte-number .byte-number .ensures .0) (at-reads-slot .reads-slot .ensures) _ (at-loop-test .loop-test .taken) (c .enum-told .given .1) ∙ at-loop .loop .inv .1)
+    (omega arith, values-on _ _ _ _ _ (at-byte-number .byte-number .ensures .0) (at-reads-slot .reads-slot .ensures) _ (at-loop-test .loop-test .taken) (c .enum-told .given .1) ∙ at-loop .loop .inv .1)
 
 returns-2 : tie.Need-returns-2 Inv-loop μ-loop
-returns-2 c = values-none _ _ _ _ (c .loop-test .left) ∙ c .before .loop .inv .1
+returns-2 c = values-none _ _ _ _ _ (c .loop-test .left) ∙ c .before .loop .inv .1
 
 pub reads-values-spec : {M : Type 1} → statement M
 reads-values-spec =

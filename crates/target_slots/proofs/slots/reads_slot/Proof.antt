@@ -4,8 +4,8 @@ use borrow.Author.Needs.{needs}
 use Rattle.target_slots.proofs.slots.reads_slot.Statement.{statement}
 use Rattle.target_slots.proofs.slots.reads_slot.Tie as tie
 
-array-read-bound : tie.Need-array-read-bound
-array-read-bound c = search needs
+kind-of-requires : tie.Need-kind-of-requires
+kind-of-requires c κs = search needs
 
 kind-refusal-requires : tie.Need-kind-refusal-requires
 kind-refusal-requires c κs = search needs
@@ -15,13 +15,14 @@ refused-unless-requires c κs = search needs
 
 returns : tie.Need-returns
 returns c =
-    let told = c .before in
-    c .refused-unless .ensures ∙ reads-within _ _ _ _ (told .before .if1 .taken) (told .kind-refusal .ensures)
+    let at-kind-refusal = c .before in
+    let at-kind-of = at-kind-refusal .before in
+    c .refused-unless .ensures ∙ reads-within _ _ _ _ _ (at-kind-of .before .if1 .taken) (at-kind-of .kind-of .ensures) (at-kind-refusal .kind-refusal .ensures)
 
 returns-2 : tie.Need-returns-2
-returns-2 c = sym (reads-beyond _ _ _ _ (c .if1 .left))
+returns-2 c = sym (reads-beyond _ _ _ _ _ (c .if1 .left))
 
 pub reads-slot-spec : {M : Type 1} → statement M
 reads-slot-spec =
     tie.close
-    (tie.spec array-read-bound kind-refusal-requires refused-unless-requires returns returns-2)
+    (tie.spec kind-of-requires kind-refusal-requires refused-unless-requires returns returns-2)

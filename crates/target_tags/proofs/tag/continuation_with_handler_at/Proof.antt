@@ -1,23 +1,27 @@
-use Rattle.target_tags.specs.TagLaws.{tag-9-cut, tag-9-in}
+use Rattle.target_tags.specs.TagLaws.{width-bound, tag-9-cut, tag-9-in}
 use native.Mathlib.Omega.{arith}
 use mathlib.Core.Path.{_∙_}
+use Rattle.parsing.specs.Fields.{versionOf}
 use borrow.Author.Needs.{needs}
 use Rattle.target_tags.proofs.tag.continuation_with_handler_at.Statement.{statement}
 use Rattle.target_tags.proofs.tag.continuation_with_handler_at.Tie as tie
-use Rattle.target_tags.proofs.tag.continuation_with_handler_at.Reads as reads
-use Rattle.target_tags.proofs.tag.continuation_with_handler_at.Lts as lts
-use Rattle.target_tags.proofs.tag.cut.Reads as cut-reads
-use Rattle.casts.proofs.pair.Reads as pair-reads
-use Rattle.casts.proofs.byte_number.Reads as byte-number-reads
+
+number-width-requires : tie.Need-number-width-requires
+number-width-requires c κs = search needs
+
+add-own : tie.Need-add-own
+add-own c = search needs
 
 add-next : tie.Need-add-next
-add-next c = search needs
+add-next c = let entry = c .before .before in omega (arith, c .number-width .ensures, width-bound (versionOf (entry .args .file .now)))
 
 cut-requires : tie.Need-cut-requires
 cut-requires c κs = search needs
 
 returns : tie.Need-returns
-returns c = c .cut .ensures ∙ tag-9-cut _ _ (c .before .if1 .taken)
+returns c =
+    let at-test = c .before in
+    c .cut .ensures ∙ tag-9-cut _ _ _ (at-test .before .number-width .ensures) (at-test .if1 .taken)
 
 add-byte-number : tie.Need-add-byte-number
 add-byte-number c = search needs
@@ -46,6 +50,12 @@ shared-slice-read-byte-number-3 c = search needs
 byte-number-requires-3 : tie.Need-byte-number-requires-3
 byte-number-requires-3 c κs = search needs
 
+add-place : tie.Need-add-place
+add-place c = search needs
+
+number-slot-at-requires : tie.Need-number-slot-at-requires
+number-slot-at-requires c κs = search needs
+
 add-field : tie.Need-add-field
 add-field c = search needs
 
@@ -63,15 +73,20 @@ pair-requires c κs = search needs
 
 returns-2 : tie.Need-returns-2
 returns-2 c =
-    let at-byte-number3 = c .before .before .before in
+    let at-number-slot-at = c .before .before .before in
+    let at-byte-number3 = at-number-slot-at .before in
     let at-byte-number2 = at-byte-number3 .before .before in
     let at-byte-number = at-byte-number2 .before .before in
-    tag-9-in _ _ _ _ _ _ (omega arith) (at-byte-number .byte-number .ensures .0) (at-byte-number2 .byte-number2 .ensures .0) (at-byte-number3 .byte-number3 .ensures .0) (c .pair .ensures)
+    let at-number-width = at-byte-number .before .before .before in
+    tag-9-in _ _ _ _ _ _ _ _ (at-number-width .number-width .ensures) (omega arith) (at-byte-number .byte-number .ensures .0) (at-byte-number2 .byte-number2 .ensures .0) (at-byte-number3 .byte-number3 .ensures .0)
+    (at-number-slot-at .number-slot-at .ensures) (c .pair .ensures)
 
 pub continuation-with-handler-at-spec : {M : Type 1} → statement M
 continuation-with-handler-at-spec =
     tie.close
     (tie.spec
+    number-width-requires
+    add-own
     add-next
     cut-requires
     returns
@@ -84,6 +99,8 @@ continuation-with-handler-at-spec =
     add-byte-number-3
     shared-slice-read-byte-number-3
     byte-number-requires-3
+    add-place
+    number-slot-at-requires
     add-field
     shared-slice-read-pair
     add-pair
