@@ -3,7 +3,7 @@ use Prim.Native.Nat.{ℕ}
 use mathlib.Core.Path.{_≡_, refl, ap, _∙_}
 use mathlib.Core.List.{List}
 use Rattle.procedure_operations.specs.declared.operation.Operation.{Operation}
-use Rattle.procedure_operations.specs.declared.operation.Operation.the-variants.{Constant, Copy, Difference, Call, Goto, Return, Branch, Raise, Refused}
+use Rattle.procedure_operations.specs.declared.operation.Operation.the-variants.{Constant, Copy, Difference, Call, Goto, Return, Branch, Raise, RaiseValue, Refused}
 use Rattle.procedure_operations.specs.Operation.{operationAt}
 use Rattle.procedure_layout.specs.Rest.{restAt, restFrom}
 use Rattle.procedure_layout.specs.After.{afterOf}
@@ -19,6 +19,7 @@ GoesOn s f (Goto l next) = Unit {0}
 GoesOn s f (Return x next) = Unit {0}
 GoesOn s f (Branch y z l m next) = Unit {0}
 GoesOn s f (Raise next) = Unit {0}
+GoesOn s f (RaiseValue x next) = Unit {0}
 GoesOn s f (Refused r) = ⊥
 
 pub goes-on : {s : List ℕ} {f at : ℕ} → FileInvariant s → Stands s f at → GoesOn s f (operationAt s at)
@@ -33,6 +34,7 @@ goes-on {s} {f} {at} F S = by (operationAt s at) refl
     by (Return x next) e = tt
     by (Branch y z l m next) e = tt
     by (Raise next) e = tt
+    by (RaiseValue x next) e = tt
     by (Refused r) e = F .operation f at r S e
 
 -- The rest of the block, once the operation is known.

@@ -4,6 +4,7 @@ use native.Mathlib.Omega.{arith}
 use mathlib.Core.Path.{_≡_, refl, sym, ap, ap₂, _∙_, subst}
 use mathlib.Core.Bool.{Bool, true, false, cond}
 use mathlib.Core.List.{List}
+use mathlib.Core.Option.{none, some}
 use lib.IntN.{ℤ, pos, _-ℤ_}
 use lib.ListN.{length, getD, set, take, length-set}
 use lib.Seq.{take-set-lt}
@@ -13,9 +14,10 @@ use Rattle.semantics.specs.Program.{Label}
 use Rattle.semantics.specs.Run.{next}
 use Rattle.semantics.specs.Bench.{Frame, state, raised, step}
 use Rattle.semantics.specs.WellFormed.{IsLabel}
-use Rattle.semantics.specs.Extras.{caughtOutside, extra}
+use Rattle.semantics.specs.Extras.{raiseExtra, extra}
+use Rattle.semantics.specs.SlotLaws.{given-some}
 use Rattle.procedure_operations.specs.declared.operation.Operation.{Operation}
-use Rattle.procedure_operations.specs.declared.operation.Operation.the-variants.{Constant, Copy, Difference, Goto, Branch}
+use Rattle.procedure_operations.specs.declared.operation.Operation.the-variants.{Constant, Copy, Difference, Goto, Branch, RaiseValue}
 use Rattle.procedure_operations.specs.Operation.{operationAt}
 use Rattle.procedure_fields.specs.Number.{numberOf}
 use Rattle.procedure_fields.specs.NumberLaws.{raise-known}
@@ -63,9 +65,9 @@ module _ {s : List ℕ} (F : FileInvariant s) {limit : ℕ} {r : Regs} {vs words
   -- 3 difference: its step and its extras, by whether it fits.
   judged : {x y z y′ z′ n : ℕ} {a b : ℤ} {c c′ : Bool} → operationAt s (r .at) ≡ Difference x y z n → y′ ≡ y → z′ ≡ z → a ≡ value y′ → b ≡ value z′ → c ≡ inRange (a -ℤ b) → c ≡ c′ → (
       step (programOf s) limit (before F H (Difference x y z n)) ≡ cond c′ (next (state (r .function) (r .handler) (restAt s n) (set now-vars x (a -ℤ b)) now-frames))
-      (raised (programOf s) (r .function) (r .handler) now-vars now-frames)
+      (raised (programOf s) (r .function) (r .handler) (pos 0) now-vars now-frames)
       )
-      × (extra (programOf s) (before F H (Difference x y z n)) ≡ cond c′ 0 (suc (caughtOutside (r .handler) now-frames)))
+      × (extra (programOf s) (before F H (Difference x y z n)) ≡ cond c′ 0 (suc (raiseExtra (programOf s) (r .function) (r .handler) none now-frames)))
   unfolding step
   judged {y = y} {z = z} {a = a} {b = b} {c′ = c′} e ey ez ea eb ec et =
       let w = placed F H e .block in
@@ -80,12 +82,12 @@ module _ {s : List ℕ} (F : FileInvariant s) {limit : ℕ} {r : Regs} {vs words
       let D = judged e ey ez ea eb ec et in assigned e ex (ev ∙ minus-same a b (sym ec ∙ et)) eq (placed F H e .block .0) (on F H e) (D .1) (D .0)
 
   pub difference-raises : {x y z y′ z′ n : ℕ} {a b : ℤ} {c : Bool} → operationAt s (r .at) ≡ Difference x y z n → y′ ≡ y → z′ ≡ z → a ≡ value y′ → b ≡ value z′ → c ≡ inRange (a -ℤ b) → c ≡ false
-      → Raises s limit r vs words (r .extras + 1)
+      → Raises s limit r vs words (r .extras + 1) (pos 0) true
   difference-raises e ey ez ea eb ec et =
       let D = judged e ey ez ea eb ec et in
-      let m = caughtOutside (r .handler) now-frames in
+      let m = raiseExtra (programOf s) (r .function) (r .handler) none now-frames in
       let p : r .extras + suc m ≡ r .extras + 1 + m = omega arith in
-      record { outcome = stepped F H e ∙ D .0; counted = ap (λ (k : ℕ). r .extras + k) (extra-is F H e ∙ D .1) ∙ p }
+      record { named = none; zeroIs = refl; outcome = stepped F H e ∙ D .0; counted = ap (λ (k : ℕ). r .extras + k) (extra-is F H e ∙ D .1) ∙ p }
 
   -- 5 goto
   pub goto-safe : {l n : ℕ} → operationAt s (r .at) ≡ Goto l n → (r .function < length (programOf s)) × IsLabel (length (functionAt s (r .function) .blocks)) l
@@ -117,9 +119,23 @@ module _ {s : List ℕ} (F : FileInvariant s) {limit : ℕ} {r : Regs} {vs words
       to-label F H (chosen c′ (w .2) (w .3)) (stepped F H e ∙ rw (value-is F H (w .0), value-is F H (w .1), k)) (ap (λ (j : ℕ). r .extras + j) (sym (extra-is F H e))) eq
 
   -- 8 raise
-  pub raise-raises : numberOf (operationAt s (r .at)) ≡ 8 → Raises s limit r vs words (r .extras)
+  pub raise-raises : numberOf (operationAt s (r .at)) ≡ 8 → Raises s limit r vs words (r .extras) (pos 0) true
   unfolding step
-  raise-raises e = let o = raise-known (operationAt s (r .at)) e in record { outcome = stepped F H (o .1); counted = ap (λ (k : ℕ). r .extras + k) (extra-is F H (o .1)) }
+  raise-raises e =
+      let o = raise-known (operationAt s (r .at)) e in
+      record { named = none; zeroIs = refl; outcome = stepped F H (o .1); counted = ap (λ (k : ℕ). r .extras + k) (extra-is F H (o .1)) }
+
+  -- 9 raise of a variable's value
+  pub value-raises : {x a n : ℕ} {v : ℤ} → operationAt s (r .at) ≡ RaiseValue x n → a ≡ x → v ≡ value a → Raises s limit r vs words (r .extras) v false
+  unfolding step
+  value-raises {x} {v = v} e ea ev =
+      let q : v ≡ value x = ev ∙ ap value ea in
+      record {
+        named = some x;
+        zeroIs = refl;
+        outcome = rw q (stepped F H e ∙ given-some (λ (z : ℤ). raised (programOf s) (r .function) (r .handler) z now-vars now-frames) (value-is F H (placed F H e .block)));
+        counted = ap (λ (k : ℕ). r .extras + k) (extra-is F H e);
+      }
 
 -- ── Operation 3 up to a raise ───────────────────────────────────────────────────────────────────
 
@@ -127,12 +143,16 @@ module _ {s : List ℕ} {limit : ℕ} {r : Regs} {vs words : List ℤ} where
   pub subtract-done : {n : ℕ} {b : Bool} {vs′ : List ℤ} {q : Regs} → Subtracts s limit r vs words n b vs′ → b ≡ true → q ≡ behind r n → StepResult s limit r vs words (Next q) vs′ words
   subtract-done {n} {vs′ = vs′} D e eq = rw eq (subst (λ (b : Bool). Subtracts s limit r vs words n b vs′) e D)
 
-  pub subtract-raises : (n : ℕ) {b : Bool} {vs′ : List ℤ} → Subtracts s limit r vs words n b vs′ → b ≡ false → Raises s limit r vs words (r .extras + 1) × (vs′ ≡ vs)
+  pub subtract-raises : (n : ℕ) {b : Bool} {vs′ : List ℤ} → Subtracts s limit r vs words n b vs′ → b ≡ false → Raises s limit r vs words (r .extras + 1) (pos 0) true × (vs′ ≡ vs)
   subtract-raises n {vs′ = vs′} D e = subst (λ (b : Bool). Subtracts s limit r vs words n b vs′) e D
 
+  -- A number that went through a word.
+  pub raises-as : {k : ℕ} {n v : ℤ} {z : Bool} → v ≡ n → Raises s limit r vs words k n z → Raises s limit r vs words k v z
+  raises-as {k} {z = z} e R = subst (λ (i : ℤ). Raises s limit r vs words k i z) (sym e) R
+
   -- `raise_step` behind it, with variables us, which are those before.
-  pub raise-asked : {us : List ℤ} {k : ℕ} → us ≡ vs → Invariant s limit r vs words → Raises s limit r vs words k → Invariant s limit r us words × Raises s limit r us words k
-  raise-asked e H R = rw e (H, R)
+  pub raise-asked : {us : List ℤ} {k : ℕ} {n v : ℤ} {z : Bool} → us ≡ vs → v ≡ n → Invariant s limit r vs words → Raises s limit r vs words k n z → Invariant s limit r us words × Raises s limit r us words k v z
+  raise-asked e q H R = rw (e, q) (H, R)
 
   pub raise-done : {us us′ : List ℤ} {x : Step} → us ≡ vs → StepResult s limit r us words x us′ words → StepResult s limit r vs words x us′ words
   raise-done {us′ = us′} {x = x} e D = subst (λ (ws : List ℤ). StepResult s limit r ws words x us′ words) e D

@@ -3,7 +3,7 @@ use Prim.Native.Nat.{ℕ, _+_}
 use mathlib.Core.Path.{_≡_}
 use mathlib.Core.Bool.{Bool, true, false}
 use mathlib.Core.List.{List}
-use lib.IntN.{ℤ}
+use lib.IntN.{ℤ, pos}
 use Rattle.bench_frames.specs.declared.registers.Regs.{Regs}
 use Rattle.bench_frames.specs.declared.registers.Step.the-variants.{Next}
 use Rattle.bench_frames.specs.Machine.{StepResult}
@@ -16,4 +16,4 @@ behind r n = record { function = r .function; handler = r .handler; at = n; wait
 -- By whether the difference is in the range: the step is done; or it raises, "in place, and its target keeps its value".
 abbrev pub Subtracts : List ℕ → ℕ → Regs → List ℤ → List ℤ → ℕ → Bool → List ℤ → Type 0
 Subtracts s limit r vs words n true vs′ = StepResult s limit r vs words (Next (behind r n)) vs′ words
-Subtracts s limit r vs words n false vs′ = Raises s limit r vs words (r .extras + 1) × (vs′ ≡ vs)
+Subtracts s limit r vs words n false vs′ = Raises s limit r vs words (r .extras + 1) (pos 0) true × (vs′ ≡ vs)

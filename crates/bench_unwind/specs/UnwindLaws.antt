@@ -1,17 +1,25 @@
 -- What reads waiting frames: return, and a step that raises. One law a way, as the code has it.
 use Prim.Native.Nat.{ℕ, zero, suc, _+_, _*_, _-_, _≤_, _<_}
 use native.Mathlib.Omega.{arith}
+use native.Mathlib.Nat.{add-zero, add-assoc}
 use native.Mathlib.Decide.{ℕ-discrete}
 use mathlib.Core.Path.{_≡_, refl, sym, ap, _∙_, subst}
+use mathlib.Core.Bool.{Bool, true, false, cond}
 use mathlib.Core.List.{List, _∷_}
+use mathlib.Core.Option.{Option, none, some}
+use lib.Dec.{eqb}
 use lib.IntN.{ℤ, pos}
 use lib.ListN.{length, getD, set, take, drop, length-set}
 use lib.Seq.{take-set-lt, take-take}
-use Rattle.semantics.specs.Program.{Block, Program, variables}
+use Rattle.semantics.specs.Program.{Variable, Block, Program, variables}
 use Rattle.semantics.specs.Run.{uncaught, next, end}
-use Rattle.semantics.specs.Bench.{Frame, frame, state, enter, returned, unwound, raised, step}
+use Rattle.semantics.specs.Bench.{Frame, frame, state, returned, enterByRaise, unwound, raised, step}
 use Rattle.semantics.specs.WellFormed.{All, IsLabel, WellFormedFrame}
-use Rattle.semantics.specs.Extras.{caught, caughtOutside, extra}
+use Rattle.semantics.specs.Extras.{caught, one, bindings, raiseExtra, extra}
+use Rattle.semantics.specs.Translation.{slotOf, receiverAt}
+use Rattle.semantics.specs.Follow.{length-received}
+use Rattle.parsing.specs.Fields.{versionOf}
+use Rattle.procedure_file.specs.Places.{startOf, handlerOf, receiverOf}
 use Rattle.semantics.specs.Matching.{newestGuarded}
 use Rattle.semantics.specs.SlotLaws.{given-some}
 use Rattle.memory.specs.declared.Head.{Head}
@@ -29,8 +37,8 @@ use Rattle.runs.specs.declared.End.the-variants.{Value, Uncaught}
 use Rattle.procedure_file.specs.FileInvariant.{FileInvariant, Stands}
 use Rattle.bench_frames.specs.Machine.{functionAt, varsOf, startRegs, frameOf, framesOf, stateOf, Invariant, StepResult}
 use Rattle.bench_frames.specs.StateLaws.{length-frames, front, frameWith, vars-bound, stepped, extra-is, place, placed, there, moved}
-use Rattle.bench_unwind.specs.Raises.{Raises}
-use Rattle.bench_unwind.specs.EnterLaws.{enters, value-is, no-extras, to-label}
+use Rattle.bench_unwind.specs.Raises.{isZero, leaving, Receives, Leaves, Raises}
+use Rattle.bench_unwind.specs.EnterLaws.{enters-by-raise, receiver-at, receiver-set, value-is, no-extras}
 
 -- A waiting frame is well-formed.
 waits : (s : List ℕ) (words : List ℤ) (d w : ℕ) → d < w → All (WellFormedFrame (programOf s)) (framesOf s words w) → WellFormedFrame (programOf s) (frameOf s (frameAt d words))
@@ -70,31 +78,31 @@ search-on s words {d = d} q e z = rw q (sym (ap (λ (k : ℕ). newestGuarded (fr
 pub search-ends : (s : List ℕ) (words : List ℤ) {w : ℕ} → w ≤ 0 → w ≡ newestGuarded (framesOf s words w)
 search-ends s words {w} l = let q : w ≡ 0 = omega arith in rw q refl
 
--- What a raise comes to that its own function does not catch, by the count of the newest frame with a handler.
-abbrev Unwinds : List ℕ → List ℤ → ℕ → ℕ → Type 0
-Unwinds s words w zero = (unwound (programOf s) (framesOf s words w) ≡ end uncaught) × (caught (framesOf s words w) ≡ 0)
-Unwinds s words w (suc d) =
-    (d < w) × (1 ≤ headOf (frameAt d words) .word1) × (unwound (programOf s) (framesOf s words w) ≡ unwound (programOf s) (framesOf s words (suc d))) × (caught (framesOf s words w) ≡ 1)
+-- What a raise of n comes to that its own function does not catch, by the count of the newest frame with a handler.
+abbrev Unwinds : List ℕ → ℤ → List ℤ → ℕ → ℕ → Type 0
+Unwinds s n words w zero = (unwound (programOf s) n (framesOf s words w) ≡ end (uncaught n)) × (caught (framesOf s words w) ≡ 0)
+Unwinds s n words w (suc d) =
+    (d < w) × (1 ≤ headOf (frameAt d words) .word1) × (unwound (programOf s) n (framesOf s words w) ≡ unwound (programOf s) n (framesOf s words (suc d))) × (caught (framesOf s words w) ≡ 1)
 
-unwinds-past : (s : List ℕ) (words : List ℤ) (w m : ℕ) → headOf (frameAt w words) .word1 ≡ 0 → Unwinds s words w m → Unwinds s words (suc w) m
-unwinds-past s words w zero e u = (ap (λ (k : ℕ). unwound (programOf s) (framesWith s words w k)) e ∙ u .0, ap (λ (k : ℕ). caught (framesWith s words w k)) e ∙ u .1)
-unwinds-past s words w (suc d) e u =
+unwinds-past : (s : List ℕ) (n : ℤ) (words : List ℤ) (w m : ℕ) → headOf (frameAt w words) .word1 ≡ 0 → Unwinds s n words w m → Unwinds s n words (suc w) m
+unwinds-past s n words w zero e u = (ap (λ (k : ℕ). unwound (programOf s) n (framesWith s words w k)) e ∙ u .0, ap (λ (k : ℕ). caught (framesWith s words w k)) e ∙ u .1)
+unwinds-past s n words w (suc d) e u =
     let l : d < w = u .0 in
-    (omega arith, u .1, ap (λ (k : ℕ). unwound (programOf s) (framesWith s words w k)) e ∙ u .2, ap (λ (k : ℕ). caught (framesWith s words w k)) e ∙ u .3)
+    (omega arith, u .1, ap (λ (k : ℕ). unwound (programOf s) n (framesWith s words w k)) e ∙ u .2, ap (λ (k : ℕ). caught (framesWith s words w k)) e ∙ u .3)
 
-unwinds : (s : List ℕ) (words : List ℤ) (w : ℕ) → Unwinds s words w (newestGuarded (framesOf s words w))
-unwinds s words zero = (refl, refl)
-unwinds s words (suc w) = by (headOf (frameAt w words) .word1) refl (unwinds s words w)
+unwinds : (s : List ℕ) (n : ℤ) (words : List ℤ) (w : ℕ) → Unwinds s n words w (newestGuarded (framesOf s words w))
+unwinds s n words zero = (refl, refl)
+unwinds s n words (suc w) = by (headOf (frameAt w words) .word1) refl (unwinds s n words w)
   where
-    by : (k : ℕ) → headOf (frameAt w words) .word1 ≡ k → Unwinds s words w (newestGuarded (framesOf s words w)) → Unwinds s words (suc w) (newestGuarded (framesOf s words (suc w)))
-    by zero e u = subst (Unwinds s words (suc w)) (search-on s words {w = suc w} {d = w} refl refl e) (unwinds-past s words w (newestGuarded (framesOf s words w)) e u)
+    by : (k : ℕ) → headOf (frameAt w words) .word1 ≡ k → Unwinds s n words w (newestGuarded (framesOf s words w)) → Unwinds s n words (suc w) (newestGuarded (framesOf s words (suc w)))
+    by zero e u = subst (Unwinds s n words (suc w)) (search-on s words {w = suc w} {d = w} refl refl e) (unwinds-past s n words w (newestGuarded (framesOf s words w)) e u)
     by (suc l) e u =
-        subst (Unwinds s words (suc w)) (search-found s words {w = suc w} {d = w} refl refl (λ (z : headOf (frameAt w words) .word1 ≡ 0). omega (arith, e, z)))
+        subst (Unwinds s n words (suc w)) (search-found s words {w = suc w} {d = w} refl refl (λ (z : headOf (frameAt w words) .word1 ≡ 0). omega (arith, e, z)))
         (omega arith, omega arith, refl, ap (λ (k : ℕ). caught (framesWith s words w k)) e)
 
-unwound-guarded : (P : Program) (f k : ℕ) (b : Block) (vs : List ℤ) (x : ℕ) (fs : List Frame) → 1 ≤ k → unwound P (frame f k b vs x ∷ fs) ≡ enter P f k vs fs
-unwound-guarded P f zero b vs x fs l = absurd (omega arith)
-unwound-guarded P f (suc k) b vs x fs l = refl
+unwound-guarded : (P : Program) (n : ℤ) (f k : ℕ) (b : Block) (vs : List ℤ) (x : ℕ) (fs : List Frame) → 1 ≤ k → unwound P n (frame f k b vs x ∷ fs) ≡ enterByRaise P f k n vs fs
+unwound-guarded P n f zero b vs x fs l = absurd (omega arith)
+unwound-guarded P n f (suc k) b vs x fs l = refl
 
 module _ {s : List ℕ} (F : FileInvariant s) {limit : ℕ} {r : Regs} {vs words : List ℤ} (H : Invariant s limit r vs words) where
   -- What is known of a waiting frame and of its head h.
@@ -187,54 +195,93 @@ module _ {s : List ℕ} (F : FileInvariant s) {limit : ℕ} {r : Regs} {vs words
   pub here-safe : ¬ (r .handler ≡ 0) → (r .function < length (programOf s)) × IsLabel (length (functionAt s (r .function) .blocks)) (r .handler)
   here-safe z = (there F H, (omega (arith, z), place F H .handler))
 
-  pub raise-here : {x : ℕ} {q : Regs} → Raises s limit r vs words x → ¬ (r .handler ≡ 0) → q ≡ startRegs s (r .function) (r .handler) (r .waiting) x → StepResult s limit r vs words (Next q) vs words
-  raise-here R z eq = to-label F H (here-safe z .1) (R .outcome ∙ by-handler (r .handler) z) (no-extras (no-more (r .handler) z) ∙ sym (R .counted)) eq
-    where
-      by-handler : (k : ℕ) → ¬ (k ≡ 0) → raised (programOf s) (r .function) k (take (varsOf s (r .function)) vs) (framesOf s words (r .waiting)) ≡ enter (programOf s) (r .function) k (take (varsOf s (r .function)) vs) (framesOf s words (r .waiting))
-      by-handler zero h = absurd (h refl)
-      by-handler (suc l) h = refl
+  module _ {x : ℕ} {n : ℤ} {c : Bool} (R : Raises s limit r vs words x n c) where
+    pub raise-here : {us : List ℤ} {k : ℕ} {q : Regs} → ¬ (r .handler ≡ 0) → Receives (receiverOf (functionAt s (r .function)) (r .handler)) n vs us k
+        → q ≡ startRegs s (r .function) (r .handler) (r .waiting) (x + k) → StepResult s limit r vs words (Next q) us words
+    unfolding stateOf
+    raise-here {us} {k} z E eq =
+        let f : ℕ = r .function in
+        let l : ℕ = r .handler in
+        let i : IsLabel (length (functionAt s f .blocks)) l = here-safe z .1 in
+        let p : Option Variable = receiverOf (functionAt s f) l in
+        let ws : List ℤ = take (varsOf s f) vs in
+        let fs : List Frame = framesOf s words (r .waiting) in
+        rw eq
+        (moved F H
+        (R .outcome
+        ∙ (by-handler l z
+        ∙ (enters-by-raise F (there F H) i n ws fs
+        ∙ ap (λ (zs : List ℤ). next (state f (handlerOf (functionAt s f) l) (restAt s (startOf (programOf s) f l)) zs fs)) (sym (ap (take (varsOf s f)) (E .set) ∙ receiver-set F (there F H) i n vs)))))
+        (F .start f l (there F H) (i .1)) (H .frames) (ap length (E .set) ∙ (length-received p n vs ∙ H .variables)) refl refl
+        (sym (R .counted ∙ ap (λ (m : ℕ). x + m) (binding l z ∙ sym (E .counted ∙ ap one (sym (receiver-at F f l i)))))))
+      where
+        by-handler : (m : ℕ) → ¬ (m ≡ 0) → raised (programOf s) (r .function) m n (take (varsOf s (r .function)) vs) (framesOf s words (r .waiting)) ≡ enterByRaise (programOf s) (r .function) m n (take (varsOf s (r .function)) vs) (framesOf s words (r .waiting))
+        by-handler zero h = absurd (h refl)
+        by-handler (suc m) h = refl
 
-      no-more : (k : ℕ) → ¬ (k ≡ 0) → caughtOutside k (framesOf s words (r .waiting)) ≡ 0
-      no-more zero h = absurd (h refl)
-      no-more (suc l) h = refl
+        binding : (m : ℕ) → ¬ (m ≡ 0) → raiseExtra (programOf s) (r .function) m (R .named) (framesOf s words (r .waiting)) ≡ one (receiverAt (functionAt s (r .function)) m)
+        binding zero h = absurd (h refl)
+        binding (suc m) h = add-zero (one (receiverAt (functionAt s (r .function)) (suc m)))
 
-  -- Without one.
-  out : {x : ℕ} → Raises s limit r vs words x → r .handler ≡ 0 → step (programOf s) limit (stateOf s r vs words) ≡ unwound (programOf s) (framesOf s words (r .waiting))
-  out R z = R .outcome ∙ ap (λ (k : ℕ). raised (programOf s) (r .function) k (take (varsOf s (r .function)) vs) (framesOf s words (r .waiting))) z
+    -- Without one it leaves the function.
+    pub raise-leaves : {k : ℕ} → r .handler ≡ 0 → k ≡ leaving (versionOf s) c → Leaves s limit r vs words (x + k) n
+    unfolding leaving
+    raise-leaves {k} z e =
+        record {
+          outcome = R .outcome ∙ ap (λ (m : ℕ). raised (programOf s) (r .function) m n (take (varsOf s (r .function)) vs) (framesOf s words (r .waiting))) z;
+          counted =
+              R .counted
+              ∙ (ap (λ (m : ℕ). x + raiseExtra (programOf s) (r .function) m (R .named) (framesOf s words (r .waiting))) z
+              ∙ (sym (add-assoc x (bindings (functionAt s (r .function)) 0 (R .named)) (caught (framesOf s words (r .waiting))))
+              ∙ ap (λ (m : ℕ). x + m + caught (framesOf s words (r .waiting))) (bound (R .named) (e ∙ ap (leaving (versionOf s)) (R .zeroIs)))));
+        }
+      where
+        bound : (q : Option Variable) → k ≡ leaving (versionOf s) (isZero q) → bindings (functionAt s (r .function)) 0 q ≡ k
+        bound none h = ap (λ (v : ℕ). one (cond (eqb v 2) (some (slotOf (suc (suc (varsOf s (r .function)))))) none)) (F .version (r .function) (there F H)) ∙ (by (eqb (versionOf s) 2) ∙ sym h)
+          where
+            by : (t : Bool) → one (cond t (some (slotOf (suc (suc (varsOf s (r .function)))))) none) ≡ cond t 1 0
+            by true = refl
+            by false = refl
+        bound (some y) h = sym h
 
-  out-extra : {x k : ℕ} → Raises s limit r vs words x → r .handler ≡ 0 → caught (framesOf s words (r .waiting)) ≡ k → x + k ≡ r .extras + extra (programOf s) (stateOf s r vs words)
-  out-extra {x} R z e = sym (R .counted ∙ ap (λ (k : ℕ). x + k) (ap (λ (k : ℕ). caughtOutside k (framesOf s words (r .waiting))) z ∙ e))
+  pub leaves-as : {x : ℕ} {n z : ℤ} → z ≡ n → Leaves s limit r vs words x n → Leaves s limit r vs words x z
+  leaves-as {x} e L = subst (λ (i : ℤ). Leaves s limit r vs words x i) (sym e) L
 
   -- No frame has one.
-  pub raise-uncaught : {x k : ℕ} → Raises s limit r vs words x → r .handler ≡ 0 → k ≡ newestGuarded (framesOf s words (r .waiting)) → k ≡ 0 → StepResult s limit r vs words (Ended Uncaught x) vs words
-  raise-uncaught R z g q =
-      let u : Unwinds s words (r .waiting) 0 = subst (Unwinds s words (r .waiting)) (sym g ∙ q) (unwinds s words (r .waiting)) in
-      record { outcome = sym (out R z ∙ u .0); held = no-extras refl ∙ out-extra R z (u .1); kept = refl; sameLength = refl }
+  pub raise-uncaught : {x k : ℕ} {n z : ℤ} → Leaves s limit r vs words x n → z ≡ n → k ≡ newestGuarded (framesOf s words (r .waiting)) → k ≡ 0 → StepResult s limit r vs words (Ended (Uncaught z) x) vs words
+  raise-uncaught {x} {n = n} L e g q =
+      let u : Unwinds s n words (r .waiting) 0 = subst (Unwinds s n words (r .waiting)) (sym g ∙ q) (unwinds s n words (r .waiting)) in
+      record { outcome = ap (λ (i : ℤ). end (uncaught i)) e ∙ sym (L .outcome ∙ u .0); held = no-extras refl ∙ sym (L .counted ∙ ap (λ (m : ℕ). x + m) (u .1)); kept = refl; sameLength = refl }
 
   -- The newest frame that has one, the k-th oldest.
   module _ {k : ℕ} (g : k ≡ newestGuarded (framesOf s words (r .waiting))) (p : 0 < k) where
-    unwinding : Unwinds s words (r .waiting) (suc (k - 1))
-    unwinding = let q : k ≡ suc (k - 1) = omega arith in subst (Unwinds s words (r .waiting)) (sym g ∙ q) (unwinds s words (r .waiting))
+    unwinding : (n : ℤ) → Unwinds s n words (r .waiting) (suc (k - 1))
+    unwinding n = let q : k ≡ suc (k - 1) = omega arith in subst (Unwinds s n words (r .waiting)) (sym g ∙ q) (unwinds s n words (r .waiting))
 
     pub caught-below : k - 1 < r .waiting
-    caught-below = unwinding .0
+    caught-below = unwinding (pos 0) .0
 
     pub caught-label : {h : Head} → h ≡ headOf (frameAt (k - 1) words)
         → (h .word0 < length (programOf s)) × IsLabel (length (functionAt s (h .word0) .blocks)) (h .word1)
-    caught-label eh = let S = frame-safe caught-below eh in (S .function, (rw eh (unwinding .1), S .handler))
+    caught-label eh = let S = frame-safe caught-below eh in (S .function, (rw eh (unwinding (pos 0) .1), S .handler))
 
-    pub raise-caught : {x : ℕ} {h : Head} {us : List ℤ} {q : Regs} → Raises s limit r vs words x → r .handler ≡ 0 → h ≡ headOf (frameAt (k - 1) words)
-        → us ≡ lay 0 (take 32 (drop (48 * (k - 1) + 4) words)) vs → q ≡ startRegs s (h .word0) (h .word1) (k - 1) (x + 1) → StepResult s limit r vs words (Next q) us words
+    pub raise-caught : {x m : ℕ} {n : ℤ} {h : Head} {us ws : List ℤ} {q : Regs} → Leaves s limit r vs words x n → h ≡ headOf (frameAt (k - 1) words)
+        → us ≡ lay 0 (take 32 (drop (48 * (k - 1) + 4) words)) vs → Receives (receiverOf (functionAt s (h .word0)) (h .word1)) n us ws m
+        → q ≡ startRegs s (h .word0) (h .word1) (k - 1) (x + 1) → StepResult s limit r vs words (Next q) ws words
     unfolding stateOf
-    raise-caught {h = h} {us = us} R z eh eu eq =
+    raise-caught {x} {n = n} {h = h} {us = us} L eh eu E eq =
         let l : k - 1 < r .waiting = caught-below in
         let S = frame-safe l eh in
-        let i : IsLabel (length (functionAt s (h .word0) .blocks)) (h .word1) = caught-label eh .1 in
+        let f : ℕ = h .word0 in
+        let i : IsLabel (length (functionAt s f .blocks)) (h .word1) = caught-label eh .1 in
+        let fs : List Frame = framesOf s words (k - 1) in
         rw eq
         (moved F H
-        (out R z
-        ∙ (unwinding .2
-        ∙ (ap (λ (f : Frame). unwound (programOf s) (f ∷ framesOf s words (k - 1))) (frame-is l eh eu)
-        ∙ (unwound-guarded (programOf s) (h .word0) (h .word1) (restAt s (h .word2)) (take (varsOf s (h .word0)) us) (h .word3) (framesOf s words (k - 1)) (i .0)
-        ∙ enters F (S .function) i (take (varsOf s (h .word0)) us) (framesOf s words (k - 1))))))
-        (F .start (h .word0) (h .word1) (S .function) (i .1)) (λ j x. H .frames j (omega arith)) (us-long l eh eu) refl refl (out-extra R z (unwinding .3)))
+        (L .outcome
+        ∙ (unwinding n .2
+        ∙ (ap (λ (g : Frame). unwound (programOf s) n (g ∷ fs)) (frame-is l eh eu)
+        ∙ (unwound-guarded (programOf s) n f (h .word1) (restAt s (h .word2)) (take (varsOf s f) us) (h .word3) fs (i .0)
+        ∙ (enters-by-raise F (S .function) i n (take (varsOf s f) us) fs
+        ∙ ap (λ (zs : List ℤ). next (state f (handlerOf (functionAt s f) (h .word1)) (restAt s (startOf (programOf s) f (h .word1))) zs fs)) (sym (ap (take (varsOf s f)) (E .set) ∙ receiver-set F (S .function) i n us)))))))
+        (F .start f (h .word1) (S .function) (i .1)) (λ j x. H .frames j (omega arith)) (ap length (E .set) ∙ (length-received (receiverOf (functionAt s f) (h .word1)) n us ∙ us-long l eh eu)) refl refl
+        (sym (L .counted ∙ ap (λ (m : ℕ). x + m) (unwinding n .3))))

@@ -5,7 +5,9 @@ use casts::byte_number;
 use memory::FRAME_SIZE;
 use memory::copy;
 use memory::head_at;
+use parsing::version_of;
 use procedure_file::table::handler_of;
+use procedure_file::table::receiver_of;
 use procedure_file::table::start_of;
 use procedure_layout::layout::MAX_VARIABLES;
 use procedure_operations::numbers::VariableNumber;
@@ -21,7 +23,9 @@ ghost use Rattle.procedure_file.specs.Check.{programOf};
 ghost use Rattle.procedure_file.specs.Loaded.{Tabled, Loaded};
 ghost use Rattle.procedure_file.specs.FileInvariant.{FileInvariant};
 ghost use Rattle.bench_frames.specs.Machine.{functionAt, startRegs, framesOf, Invariant, StepResult};
-ghost use Rattle.bench_unwind.specs.Raises.{Raises};
+ghost use Rattle.parsing.specs.Fields.{versionOf};
+ghost use Rattle.procedure_file.specs.Places.{receiverOf};
+ghost use Rattle.bench_unwind.specs.Raises.{leaving, Receives, Leaves, Raises};
 
 // The start of the block with label l, which is not 0, of function f.
 pub fn entered(
@@ -104,6 +108,39 @@ fn guarded(file: &[u8], limit: usize, r: Regs, vars: &[i32; 32], words: &[i32]) 
     w
 }
 
+// The receiver, if any, of the block with label l of function f is set to the number raised; the answer is how many are set, 1 or 0.
+fn receive(
+    file: &[u8],
+    starts: &[u16; 2048],
+    f: usize,
+    l: usize,
+    vars: &mut [i32; 32],
+    number: i32,
+) -> u64
+    requires { ⌜ Loaded (now file) (now starts) ⌝ }
+    requires { ⌜ (f < length (programOf (now file))) × IsLabel (length (functionAt (now file) f .blocks)) l ⌝ }
+    ensures { λ k. ⌜ Receives (receiverOf (functionAt (now (file .entry)) f) l) number (now (vars .entry)) (now (vars .exit)) k ⌝ }
+{
+    let x = byte_number(receiver_of(file, starts, f, l));
+    if x == 255 {
+        return 0;
+    }
+    vars[x] = number;
+    1
+}
+
+// What a raise that leaves its function binds on the controller: 1 for a 0 in version 2.
+fn leaving(file: &[u8], zero: bool) -> u64
+    ensures { λ k. ⌜ k ≡ leaving (versionOf (now (file .entry))) zero ⌝ }
+{
+    if zero {
+        if version_of(file) == 2 {
+            return 1;
+        }
+    }
+    0
+}
+
 // A step that raises, to the handler of the newest frame that has one, the k-th oldest.
 fn caught_step(
     file: &[u8],
@@ -113,13 +150,14 @@ fn caught_step(
     vars: &mut [i32; 32],
     words: &[i32],
     extras: u64,
+    number: i32,
     k: usize,
 ) -> Step
     requires { ⌜ Loaded (now file) (now starts) ⌝ }
     requires { ⌜ Invariant (now file) limit r (now vars) (now words) ⌝ }
-    requires { ⌜ Raises (now file) limit r (now vars) (now words) extras ⌝ }
-    requires { ⌜ extras ≤ 9223372036854775808 ⌝ }
-    requires { ⌜ (r .handler ≡ 0) × (k ≡ newestGuarded (framesOf (now file) (now words) (r .waiting))) × (0 < k) ⌝ }
+    requires { ⌜ Leaves (now file) limit r (now vars) (now words) extras number ⌝ }
+    requires { ⌜ extras ≤ 9223372036854775809 ⌝ }
+    requires { ⌜ (k ≡ newestGuarded (framesOf (now file) (now words) (r .waiting))) × (0 < k) ⌝ }
     ensures { λ x. ⌜ StepResult (now (file .entry)) limit r (now (vars .entry)) (now (words .entry)) x (now (vars .exit)) (now (words .entry)) ⌝ }
 {
     let d = k - 1;
@@ -128,11 +166,12 @@ fn caught_step(
     let from = FRAME_SIZE * d + 4;
     copy(words, from, vars, 0, MAX_VARIABLES);
     let l = h.word1;
+    receive(file, starts, f, l, vars, number);
     let more = extras + 1;
     Step::Next(entered(file, starts, f, l, d, more))
 }
 
-// A step that raises, with the extras counted before what catching it adds.
+// A step that raises a number, with the extras counted before the raise's own; `zero` says whether it is operation 8 or a difference out of range.
 pub fn raise_step(
     file: &[u8],
     starts: &[u16; 2048],
@@ -141,23 +180,28 @@ pub fn raise_step(
     vars: &mut [i32; 32],
     words: &[i32],
     extras: u64,
+    number: i32,
+    zero: bool,
 ) -> Step
     requires { ⌜ Loaded (now file) (now starts) ⌝ }
     requires { ⌜ Invariant (now file) limit r (now vars) (now words) ⌝ }
-    requires { ⌜ Raises (now file) limit r (now vars) (now words) extras ⌝ }
+    requires { ⌜ Raises (now file) limit r (now vars) (now words) extras number zero ⌝ }
     requires { ⌜ extras ≤ 9223372036854775808 ⌝ }
     ensures { λ x. ⌜ StepResult (now (file .entry)) limit r (now (vars .entry)) (now (words .entry)) x (now (vars .exit)) (now (words .entry)) ⌝ }
 {
     let h = r.handler;
     if h != 0 {
-        return Step::Next(entered(file, starts, r.function, h, r.waiting, extras));
+        let bound = receive(file, starts, r.function, h, vars, number);
+        let more = extras + bound;
+        return Step::Next(entered(file, starts, r.function, h, r.waiting, more));
     }
+    let more = extras + leaving(file, zero);
     let k = guarded(file, limit, r, vars, words);
     if k == 0 {
         return Step::Ended {
-            end: End::Uncaught,
-            extras: extras,
+            end: End::Uncaught(number),
+            extras: more,
         };
     }
-    caught_step(file, starts, limit, r, vars, words, extras, k)
+    caught_step(file, starts, limit, r, vars, words, more, number, k)
 }
