@@ -10,13 +10,16 @@ use lib.Seq.{drop-cons, getD-set-same, getD-set-other}
 use Rattle.parsing.specs.Parser.{joined}
 use Rattle.parsing.specs.ParserLaws.{joined-append}
 use Rattle.parsing.specs.Bytes.{pairBytes}
+use Rattle.parsing.specs.Fields.{versionOf}
 use Rattle.semantics.specs.Program.{Function, Program, variables, functionOf, noFunction}
 use Rattle.semantics.specs.Translation.{targets, number, translateFunction, translateFrom, translate}
+use Rattle.semantics.specs.Controller.{codeVersion}
 use Rattle.semantics.specs.TranslationLaws.{length-translateFunction}
 use Rattle.procedure_file.specs.Check.{programOf}
 use Rattle.procedure_file.specs.Loaded.{Laid, Loaded}
 use Rattle.procedure_file.specs.AcceptedLaws.{laid-reads}
 use Rattle.procedure_file.specs.TableLaws.{blocks-bound}
+use Rattle.procedure_file.specs.LoadedLaws.{loaded-invariant}
 use Rattle.target_file.specs.Writing.{targetBytes, writing}
 use Rattle.translator_sizes.specs.declared.Fields.{Fields}
 use Rattle.translator.specs.Translated.{translationOf}
@@ -146,7 +149,7 @@ module _ {s : List ℕ} (L : Laid s) {f n : ℕ} {ns : List ℕ} (N : Numbering 
 -- Writing the part of a block.
 module _ {s starts : List ℕ} (L : Loaded s starts) (f : ℕ) (there : f < length (programOf s)) (l : ℕ) (block : l ≤ length (functionOf (programOf s) f .blocks))
     (x : Fields) (e : x ≡ fieldsOf (programOf s) f l) (ns : List ℕ) (N : Numbered s ns) (base : ℕ) (eb : base ≡ getD ns f 0) where
-  pub label-placed : Placed s ns base (x .variables) (x .start)
+  pub label-placed : Placed s ns base (x .under .variables) (x .start)
   label-placed =
       let T = L .tabled .laid in
       record {
@@ -155,28 +158,39 @@ module _ {s starts : List ℕ} (L : Loaded s starts) (f : ℕ) (there : f < leng
         baseBound = omega (arith, eb, N f there, base-bound s T f (omega arith), functions-bound s T);
       }
 
-  pub label-part : labelBytes s f l ≡ partBytes s base (x .params) (x .locals) (x .variables) (x .handler) (x .start)
+  pub label-part : labelBytes s f l ≡ partBytes s base (x .params) (x .locals) (x .under) (x .start)
   label-part = rw (eb, N f there) (label-is L f there l block x e)
 
+-- The translation of a loaded file has its version.
+first-version : (P : Program) → 1 ≤ length P → codeVersion (translate P) ≡ functionOf P 0 .version
+unfolding translate
+first-version [] h = absurd (omega arith)
+first-version (F ∷ P) h = refl
+
+pub version-kept : {s starts : List ℕ} → Loaded s starts → {v : ℕ} → v ≡ versionOf s → v ≡ codeVersion (translate (programOf s))
+version-kept {s} L ev =
+    let h : 1 ≤ length (programOf s) = laid-reads (L .tabled .laid) .least in
+    ev ∙ sym (first-version (programOf s) h ∙ loaded-invariant L .version 0 h)
+
 -- The whole file: mark, version, count, functions.
-module _ (s : List ℕ) {o n : ℕ} {d : List ℕ} (e : n ≡ length (translate (programOf s))) (R : Room o (translationOf s) d) where
-  whole : Room o ((83 ∷ 80 ∷ 67 ∷ []) ++ ((1 ∷ 0 ∷ []) ++ (pairBytes (length (translate (programOf s))) ++ functionsBytes s))) d
+module _ (s : List ℕ) {o n v : ℕ} {d : List ℕ} (ev : v ≡ codeVersion (translate (programOf s))) (e : n ≡ length (translate (programOf s))) (R : Room o (translationOf s) d) where
+  whole : Room o ((83 ∷ 80 ∷ 67 ∷ []) ++ ((v ∷ 0 ∷ []) ++ (pairBytes (length (translate (programOf s))) ++ functionsBytes s))) d
   unfolding translationOf writing functionsBytes
-  whole = R
+  whole = rw ev R
 
   pub mark-room : Room o (83 ∷ 80 ∷ 67 ∷ []) d
-  mark-room = room-front (83 ∷ 80 ∷ 67 ∷ []) ((1 ∷ 0 ∷ []) ++ (pairBytes (length (translate (programOf s))) ++ functionsBytes s)) whole
+  mark-room = room-front (83 ∷ 80 ∷ 67 ∷ []) ((v ∷ 0 ∷ []) ++ (pairBytes (length (translate (programOf s))) ++ functionsBytes s)) whole
 
   module _ {a : ℕ} {d₁ : List ℕ} (W : Wrote o (83 ∷ 80 ∷ 67 ∷ []) d a d₁) where
-    second : Room a ((1 ∷ 0 ∷ []) ++ (pairBytes (length (translate (programOf s))) ++ functionsBytes s)) d₁
-    second = room-back (83 ∷ 80 ∷ 67 ∷ []) ((1 ∷ 0 ∷ []) ++ (pairBytes (length (translate (programOf s))) ++ functionsBytes s)) whole W
+    second : Room a ((v ∷ 0 ∷ []) ++ (pairBytes (length (translate (programOf s))) ++ functionsBytes s)) d₁
+    second = room-back (83 ∷ 80 ∷ 67 ∷ []) ((v ∷ 0 ∷ []) ++ (pairBytes (length (translate (programOf s))) ++ functionsBytes s)) whole W
 
-    pub version-room : Room a (1 ∷ 0 ∷ []) d₁
-    version-room = room-front (1 ∷ 0 ∷ []) (pairBytes (length (translate (programOf s))) ++ functionsBytes s) second
+    pub version-room : Room a (v ∷ 0 ∷ []) d₁
+    version-room = room-front (v ∷ 0 ∷ []) (pairBytes (length (translate (programOf s))) ++ functionsBytes s) second
 
-    module _ {b : ℕ} {d₂ : List ℕ} (X : Wrote a (1 ∷ 0 ∷ []) d₁ b d₂) where
+    module _ {b : ℕ} {d₂ : List ℕ} (X : Wrote a (v ∷ 0 ∷ []) d₁ b d₂) where
       third : Room b (pairBytes (length (translate (programOf s))) ++ functionsBytes s) d₂
-      third = room-back (1 ∷ 0 ∷ []) (pairBytes (length (translate (programOf s))) ++ functionsBytes s) second X
+      third = room-back (v ∷ 0 ∷ []) (pairBytes (length (translate (programOf s))) ++ functionsBytes s) second X
 
       pub targets-room : Room b (pairBytes n) d₂
       targets-room = pair-room e (room-front (pairBytes (length (translate (programOf s)))) (functionsBytes s) third)
@@ -188,6 +202,7 @@ module _ (s : List ℕ) {o n : ℕ} {d : List ℕ} (e : n ≡ length (translate 
         pub file-wrote : {r : ℕ} {d₄ : List ℕ} → Wrote c (functionsBytes s) d₃ r d₄ → Wrote o (translationOf s) d r d₄
         unfolding translationOf writing functionsBytes
         file-wrote Q =
-            wrote-both (83 ∷ 80 ∷ 67 ∷ []) ((1 ∷ 0 ∷ []) ++ (pairBytes (length (translate (programOf s))) ++ functionsBytes s)) whole W
-            (wrote-both (1 ∷ 0 ∷ []) (pairBytes (length (translate (programOf s))) ++ functionsBytes s) second X
-            (wrote-both (pairBytes (length (translate (programOf s)))) (functionsBytes s) third (pair-as e Y) Q))
+            rw (← ev)
+            (wrote-both (83 ∷ 80 ∷ 67 ∷ []) ((v ∷ 0 ∷ []) ++ (pairBytes (length (translate (programOf s))) ++ functionsBytes s)) whole W
+            (wrote-both (v ∷ 0 ∷ []) (pairBytes (length (translate (programOf s))) ++ functionsBytes s) second X
+            (wrote-both (pairBytes (length (translate (programOf s)))) (functionsBytes s) third (pair-as e Y) Q)))

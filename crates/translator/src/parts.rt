@@ -4,6 +4,7 @@ use casts::byte_number;
 use casts::offset_number;
 use procedure_file::table;
 use translator_bytes::bytes;
+use translator_bytes::jumps::Under;
 use translator_sizes::block_size;
 use translator_sizes::fields_of;
 ghost use mathlib.Core.Path.{_≡_};
@@ -26,23 +27,22 @@ fn put_part(
     base: usize,
     p: u8,
     n: u8,
-    v: u8,
-    h: u8,
+    u: Under,
     at: usize,
     out: &mut [u8],
     o: usize,
 ) -> usize
-    requires { ⌜ Placed (now file) (now numbers) base v at × (p ≤ maxVariables) × (n ≤ 24) ⌝ }
-    requires { ⌜ Room o (partBytes (now file) base p n v h at) (now out) ⌝ }
-    ensures { λ r. ⌜ Wrote o (partBytes (now (file .entry)) base p n v h at) (now (out .entry)) r (now (out .exit)) ⌝ }
+    requires { ⌜ Placed (now file) (now numbers) base (u .variables) at × (p ≤ maxVariables) × (n ≤ 24) ⌝ }
+    requires { ⌜ Room o (partBytes (now file) base p n u at) (now out) ⌝ }
+    ensures { λ r. ⌜ Wrote o (partBytes (now (file .entry)) base p n u at) (now (out .entry)) r (now (out .exit)) ⌝ }
 {
     let first = p + 2;
-    let body = block_size(file, v, h, at);
+    let body = block_size(file, u, at);
     let size = 6 * (n as usize) + body;
     let a = bytes::put_one(out, o, p);
     let b = bytes::put_pair(out, a, size);
     let e = bytes::put_zeros(out, b, first, n);
-    put_block(file, numbers, base, v, h, at, out, e)
+    put_block(file, numbers, base, u, at, out, e)
 }
 
 // The block with label l of function f; label 0 is the entry block.
@@ -68,8 +68,7 @@ fn put_label(
         base,
         x.params,
         x.locals,
-        x.variables,
-        x.handler,
+        x.under,
         x.start,
         out,
         o,
@@ -156,11 +155,12 @@ pub fn put_file(file: &[u8], starts: &[u16; 2048], out: &mut [u8]) -> usize
     requires { ⌜ Room 0 (translationOf (now file)) (now out) ⌝ }
     ensures { λ r. ⌜ Wrote 0 (translationOf (now (file .entry))) (now (out .entry)) r (now (out .exit)) ⌝ }
 {
+    let version = parsing::version_of(file);
     let mut numbers = [0u16; 32];
     let targets = fill_numbers(file, starts, &mut numbers);
     let mark = b"SPC";
     let a = bytes::put_three(out, 0, mark[0], mark[1], mark[2]);
-    let b = bytes::put_two(out, a, 1, 0);
+    let b = bytes::put_two(out, a, version, 0);
     let e = bytes::put_pair(out, b, targets);
     put_functions(file, &numbers, starts, out, e)
 }

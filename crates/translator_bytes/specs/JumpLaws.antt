@@ -16,7 +16,8 @@ use Rattle.procedure_fields.specs.Number.{countOf}
 use Rattle.procedure_fields.specs.NumberLaws.{argument-in-range}
 use Rattle.translator_bytes.specs.Writes.{Room, Wrote, CallStands}
 use Rattle.translator_bytes.specs.WriteLaws.{room-front, room-back, wrote-both, Rest, rest-none, rest-as, rest-more, rest-done, arguments-more}
-use Rattle.translator_bytes.specs.Bytes.{labelJump, callJump, plainCall, guardedCall, branchBytes, raiseBytes, raiseSize, differenceBytes, callBytes}
+use Rattle.translator_bytes.specs.Bytes.{ifAny, sizeIfAny, labelJump, callJump, plainCall, guardedHead, guardedCall, branchBytes, raiseEnd, raiseBytes, raiseSize, raiseValueBytes, raiseValueSize, differenceBytes, callBytes}
+use Rattle.translator_bytes.specs.declared.jumps.Under.{Under}
 
 -- A jump's length, where the code has computed it.
 pub pair-as : {o j n r : ℕ} {d d′ : List ℕ} → j ≡ n → Wrote o (pairBytes j) d r d′ → Wrote o (pairBytes n) d r d′
@@ -94,40 +95,40 @@ module _ (v x g n : ℕ) (ys : List ℕ) {t o j : ℕ} {d : List ℕ} (et : t �
       unfolding plainCall
       plain-wrote Y = rw (← et) (part-wrote (8 ∷ (v + 2) ∷ t ∷ []) (callJump g (v + 2) 1 n ys) e whole W X Y)
 
-module _ (base v h x g n : ℕ) (ys : List ℕ) {t o j k : ℕ} {d : List ℕ} (et : t ≡ x + 2) (e : j ≡ 6 + n) (ek : k ≡ 6 + v) (R : Room o (guardedCall base v h x g n ys) d) where
+module _ (base : ℕ) (u : Under) (x g n : ℕ) (ys : List ℕ) {t o j k : ℕ} {d : List ℕ} (et : t ≡ x + 2) (e : j ≡ 6 + n) (ek : k ≡ 6 + u .variables) (R : Room o (guardedCall base u x g n ys) d) where
   -- What the first length counts, and what follows it.
   abbrev tail : List ℕ
-  tail = callJump g (v + 2) (v + 3) n ys ++ (pairBytes (6 + v) ++ labelJump base v h)
+  tail = callJump g (u .variables + 2) (u .variables + 3) n ys ++ (pairBytes (6 + u .variables) ++ labelJump base (u .variables) (u .handler))
 
-  all : Room o ((9 ∷ (v + 2) ∷ t ∷ (v + 3) ∷ []) ++ (pairBytes (6 + n) ++ tail)) d
+  all : Room o (guardedHead (u .variables + 2) t (u .variables + 3) (u .number) ++ (pairBytes (6 + n) ++ tail)) d
   unfolding guardedCall
   all = rw et R
 
-  pub guarded-room : Room o (9 ∷ (v + 2) ∷ t ∷ (v + 3) ∷ []) d
-  guarded-room = room-front (9 ∷ (v + 2) ∷ t ∷ (v + 3) ∷ []) (pairBytes (6 + n) ++ tail) all
+  pub guarded-room : Room o (guardedHead (u .variables + 2) t (u .variables + 3) (u .number)) d
+  guarded-room = room-front (guardedHead (u .variables + 2) t (u .variables + 3) (u .number)) (pairBytes (6 + n) ++ tail) all
 
-  module _ {a : ℕ} {d₁ : List ℕ} (W : Wrote o (9 ∷ (v + 2) ∷ t ∷ (v + 3) ∷ []) d a d₁) where
+  module _ {a : ℕ} {d₁ : List ℕ} (W : Wrote o (guardedHead (u .variables + 2) t (u .variables + 3) (u .number)) d a d₁) where
     pub guarded-pair-room : Room a (pairBytes j) d₁
-    guarded-pair-room = length-room (9 ∷ (v + 2) ∷ t ∷ (v + 3) ∷ []) tail e all W
+    guarded-pair-room = length-room (guardedHead (u .variables + 2) t (u .variables + 3) (u .number)) tail e all W
 
     module _ {b : ℕ} {d₂ : List ℕ} (X : Wrote a (pairBytes j) d₁ b d₂) where
       rest-room : Room b tail d₂
-      rest-room = part-room (9 ∷ (v + 2) ∷ t ∷ (v + 3) ∷ []) tail e all W X
+      rest-room = part-room (guardedHead (u .variables + 2) t (u .variables + 3) (u .number)) tail e all W X
 
-      pub guarded-jump-room : Room b (callJump g (v + 2) (v + 3) n ys) d₂
-      guarded-jump-room = room-front (callJump g (v + 2) (v + 3) n ys) (pairBytes (6 + v) ++ labelJump base v h) rest-room
+      pub guarded-jump-room : Room b (callJump g (u .variables + 2) (u .variables + 3) n ys) d₂
+      guarded-jump-room = room-front (callJump g (u .variables + 2) (u .variables + 3) n ys) (pairBytes (6 + u .variables) ++ labelJump base (u .variables) (u .handler)) rest-room
 
-      module _ {c : ℕ} {d₃ : List ℕ} (Y : Wrote b (callJump g (v + 2) (v + 3) n ys) d₂ c d₃) where
+      module _ {c : ℕ} {d₃ : List ℕ} (Y : Wrote b (callJump g (u .variables + 2) (u .variables + 3) n ys) d₂ c d₃) where
         pub guarded-length-room : Room c (pairBytes k) d₃
-        guarded-length-room = length-room (callJump g (v + 2) (v + 3) n ys) (labelJump base v h) ek rest-room Y
+        guarded-length-room = length-room (callJump g (u .variables + 2) (u .variables + 3) n ys) (labelJump base (u .variables) (u .handler)) ek rest-room Y
 
         module _ {f : ℕ} {d₄ : List ℕ} (Z : Wrote c (pairBytes k) d₃ f d₄) where
-          pub guarded-label-room : Room f (labelJump base v h) d₄
-          guarded-label-room = part-room (callJump g (v + 2) (v + 3) n ys) (labelJump base v h) ek rest-room Y Z
+          pub guarded-label-room : Room f (labelJump base (u .variables) (u .handler)) d₄
+          guarded-label-room = part-room (callJump g (u .variables + 2) (u .variables + 3) n ys) (labelJump base (u .variables) (u .handler)) ek rest-room Y Z
 
-          pub guarded-wrote : {r : ℕ} {d₅ : List ℕ} → Wrote f (labelJump base v h) d₄ r d₅ → Wrote o (guardedCall base v h x g n ys) d r d₅
+          pub guarded-wrote : {r : ℕ} {d₅ : List ℕ} → Wrote f (labelJump base (u .variables) (u .handler)) d₄ r d₅ → Wrote o (guardedCall base u x g n ys) d r d₅
           unfolding guardedCall
-          guarded-wrote Q = rw (← et) (part-wrote (9 ∷ (v + 2) ∷ t ∷ (v + 3) ∷ []) tail e all W X (part-wrote (callJump g (v + 2) (v + 3) n ys) (labelJump base v h) ek rest-room Y Z Q))
+          guarded-wrote Q = rw (← et) (part-wrote (guardedHead (u .variables + 2) t (u .variables + 3) (u .number)) tail e all W X (part-wrote (callJump g (u .variables + 2) (u .variables + 3) n ys) (labelJump base (u .variables) (u .handler)) ek rest-room Y Z Q))
 
 module _ (base v y z l m : ℕ) {t u o j : ℕ} {d : List ℕ} (et : t ≡ y + 2) (eu : u ≡ z + 2) (e : j ≡ 6 + v) (R : Room o (branchBytes base v y z l m) d) where
   entire : Room o ((7 ∷ t ∷ u ∷ []) ++ (pairBytes (6 + v) ++ (labelJump base v l ++ labelJump base v m))) d
@@ -158,53 +159,91 @@ module _ (base v y z l m : ℕ) {t u o j : ℕ} {d : List ℕ} (et : t ≡ y + 2
             rw (← et, ← eu)
             (part-wrote (7 ∷ t ∷ u ∷ []) (labelJump base v l ++ labelJump base v m) e entire W X (wrote-both (labelJump base v l) (labelJump base v m) both-room Y Q))
 
-module _ (base v h x y z : ℕ) {t u w o j : ℕ} {d : List ℕ} (et : t ≡ x + 2) (eu : u ≡ y + 2) (ew : w ≡ z + 2) (e : j ≡ raiseSize v h) (R : Room o (differenceBytes base v h x y z) d) where
-  full : Room o ((10 ∷ t ∷ u ∷ w ∷ []) ++ (pairBytes (raiseSize v h) ++ raiseBytes base v h)) d
+module _ (base : ℕ) (u : Under) (x y z : ℕ) {t p w o j : ℕ} {d : List ℕ} (et : t ≡ x + 2) (ep : p ≡ y + 2) (ew : w ≡ z + 2) (e : j ≡ raiseSize u) (R : Room o (differenceBytes base u x y z) d) where
+  full : Room o ((10 ∷ t ∷ p ∷ w ∷ []) ++ (pairBytes (raiseSize u) ++ raiseBytes base u)) d
   unfolding differenceBytes
-  full = rw (et, eu, ew) R
+  full = rw (et, ep, ew) R
 
-  pub difference-room : Room o (10 ∷ t ∷ u ∷ w ∷ []) d
-  difference-room = room-front (10 ∷ t ∷ u ∷ w ∷ []) (pairBytes (raiseSize v h) ++ raiseBytes base v h) full
+  pub difference-room : Room o (10 ∷ t ∷ p ∷ w ∷ []) d
+  difference-room = room-front (10 ∷ t ∷ p ∷ w ∷ []) (pairBytes (raiseSize u) ++ raiseBytes base u) full
 
-  module _ {a : ℕ} {d₁ : List ℕ} (W : Wrote o (10 ∷ t ∷ u ∷ w ∷ []) d a d₁) where
+  module _ {a : ℕ} {d₁ : List ℕ} (W : Wrote o (10 ∷ t ∷ p ∷ w ∷ []) d a d₁) where
     pub difference-pair-room : Room a (pairBytes j) d₁
-    difference-pair-room = length-room (10 ∷ t ∷ u ∷ w ∷ []) (raiseBytes base v h) e full W
+    difference-pair-room = length-room (10 ∷ t ∷ p ∷ w ∷ []) (raiseBytes base u) e full W
 
     module _ {b : ℕ} {d₂ : List ℕ} (X : Wrote a (pairBytes j) d₁ b d₂) where
-      pub difference-raise-room : Room b (raiseBytes base v h) d₂
-      difference-raise-room = part-room (10 ∷ t ∷ u ∷ w ∷ []) (raiseBytes base v h) e full W X
+      pub difference-raise-room : Room b (raiseBytes base u) d₂
+      difference-raise-room = part-room (10 ∷ t ∷ p ∷ w ∷ []) (raiseBytes base u) e full W X
 
-      pub difference-wrote : {r : ℕ} {d₃ : List ℕ} → Wrote b (raiseBytes base v h) d₂ r d₃ → Wrote o (differenceBytes base v h x y z) d r d₃
+      pub difference-wrote : {r : ℕ} {d₃ : List ℕ} → Wrote b (raiseBytes base u) d₂ r d₃ → Wrote o (differenceBytes base u x y z) d r d₃
       unfolding differenceBytes
-      difference-wrote Q = rw (← et, ← eu, ← ew) (part-wrote (10 ∷ t ∷ u ∷ w ∷ []) (raiseBytes base v h) e full W X Q)
+      difference-wrote Q = rw (← et, ← ep, ← ew) (part-wrote (10 ∷ t ∷ p ∷ w ∷ []) (raiseBytes base u) e full W X Q)
 
 -- By the handler in force.
-module _ (base v h x g n : ℕ) (ys : List ℕ) where
-  pub plain-as : h ≡ 0 → callBytes base v h x g n ys ≡ plainCall v x g n ys
+module _ (base : ℕ) (u : Under) (x g n : ℕ) (ys : List ℕ) where
+  pub plain-as : u .handler ≡ 0 → callBytes base u x g n ys ≡ plainCall (u .variables) x g n ys
   unfolding callBytes
-  plain-as e = rw (eq-eqb h 0 e)
+  plain-as e = rw (eq-eqb (u .handler) 0 e)
 
-  pub guarded-as : (h ≡ 0 → ⊥) → callBytes base v h x g n ys ≡ guardedCall base v h x g n ys
+  pub guarded-as : (u .handler ≡ 0 → ⊥) → callBytes base u x g n ys ≡ guardedCall base u x g n ys
   unfolding callBytes
-  guarded-as e = rw (ne-eqb h 0 e)
+  guarded-as e = rw (ne-eqb (u .handler) 0 e)
 
-module _ (base v h : ℕ) where
-  pub uncaught-as : h ≡ 0 → raiseBytes base v h ≡ 6 ∷ 1 ∷ []
-  unfolding raiseBytes
-  uncaught-as e = rw (eq-eqb h 0 e)
+module _ (base : ℕ) (u : Under) where
+  pub uncaught-as : u .handler ≡ 0 → raiseEnd base u ≡ (6 ∷ 1 ∷ []) ++ ifAny (u .number) (u .number ∷ [])
+  unfolding raiseEnd
+  uncaught-as e = rw (eq-eqb (u .handler) 0 e)
 
-  pub caught-as : (h ≡ 0 → ⊥) → raiseBytes base v h ≡ labelJump base v h
-  unfolding raiseBytes
-  caught-as e = rw (ne-eqb h 0 e)
+  pub caught-as : (u .handler ≡ 0 → ⊥) → raiseEnd base u ≡ labelJump base (u .variables) (u .handler)
+  unfolding raiseEnd
+  caught-as e = rw (ne-eqb (u .handler) 0 e)
 
-module _ (v h : ℕ) where
-  pub uncaught-sum : h ≡ 0 → 2 ≡ raiseSize v h
+  pub value-uncaught-as : (y : ℕ) {t : ℕ} → t ≡ y + 2 → u .handler ≡ 0 → raiseValueBytes base u y ≡ 6 ∷ 1 ∷ t ∷ []
+  unfolding raiseValueBytes
+  value-uncaught-as y et e = rw (eq-eqb (u .handler) 0 e, et)
+
+  pub value-caught-as : (y : ℕ) → (u .handler ≡ 0 → ⊥) → raiseValueBytes base u y ≡ ifAny (u .bound) (2 ∷ u .bound ∷ (y + 2) ∷ []) ++ labelJump base (u .variables) (u .handler)
+  unfolding raiseValueBytes
+  value-caught-as y e = rw (ne-eqb (u .handler) 0 e)
+
+module _ (u : Under) where
+  pub uncaught-sum : {a b : ℕ} → u .handler ≡ 0 → a ≡ sizeIfAny (u .bound) 6 → b ≡ sizeIfAny (u .number) 1 → a + (2 + b) ≡ raiseSize u
   unfolding raiseSize
-  uncaught-sum e = rw (eq-eqb h 0 e)
+  uncaught-sum e p q = rw (eq-eqb (u .handler) 0 e, p, q)
 
-  pub caught-sum : {j : ℕ} → (h ≡ 0 → ⊥) → j ≡ 6 + v → j ≡ raiseSize v h
+  pub caught-sum : {a j : ℕ} → (u .handler ≡ 0 → ⊥) → a ≡ sizeIfAny (u .bound) 6 → j ≡ 6 + u .variables → a + j ≡ raiseSize u
   unfolding raiseSize
-  caught-sum e q = rw (ne-eqb h 0 e, q)
+  caught-sum e p q = rw (ne-eqb (u .handler) 0 e, p, q)
+
+  pub value-uncaught-sum : u .handler ≡ 0 → 3 ≡ raiseValueSize u
+  unfolding raiseValueSize
+  value-uncaught-sum e = rw (eq-eqb (u .handler) 0 e)
+
+  pub value-caught-sum : {a j : ℕ} → (u .handler ≡ 0 → ⊥) → a ≡ sizeIfAny (u .bound) 3 → j ≡ 6 + u .variables → a + j ≡ raiseValueSize u
+  unfolding raiseValueSize
+  value-caught-sum e p q = rw (ne-eqb (u .handler) 0 e, p, q)
+
+-- By whether there is a slot.
+module _ (slot : ℕ) where
+  pub none-as : (w : List ℕ) → slot ≡ 0 → ifAny slot w ≡ []
+  unfolding ifAny
+  none-as w e = rw (eq-eqb slot 0 e)
+
+  pub any-as : (w : List ℕ) → (slot ≡ 0 → ⊥) → ifAny slot w ≡ w
+  unfolding ifAny
+  any-as w e = rw (ne-eqb slot 0 e)
+
+  pub any-value-as : (y : ℕ) {t : ℕ} → t ≡ y + 2 → (slot ≡ 0 → ⊥) → ifAny slot (2 ∷ slot ∷ (y + 2) ∷ []) ≡ 2 ∷ slot ∷ t ∷ []
+  unfolding ifAny
+  any-value-as y et e = rw (ne-eqb slot 0 e, et)
+
+  pub none-sum : (n : ℕ) → slot ≡ 0 → 0 ≡ sizeIfAny slot n
+  unfolding sizeIfAny
+  none-sum n e = rw (eq-eqb slot 0 e)
+
+  pub any-sum : (n : ℕ) → (slot ≡ 0 → ⊥) → n ≡ sizeIfAny slot n
+  unfolding sizeIfAny
+  any-sum n e = rw (ne-eqb slot 0 e)
 
 pub room-as : {o : ℕ} {w w′ d : List ℕ} → w ≡ w′ → Room o w d → Room o w′ d
 room-as {o} {d = d} e R = subst (λ (y : List ℕ). Room o y d) e R

@@ -14,6 +14,10 @@ use Rattle.translator_bytes.specs.Bytes.{zeros}
 pub wrote-length : {o : ℕ} {w d : List ℕ} {r : ℕ} {d′ : List ℕ} → Room o w d → Wrote o w d r d′ → length d′ ≡ length d
 wrote-length {o} {w} {d} R W = ap length (W .laid) ∙ length-lay o w d (R .fits)
 
+-- Nothing.
+pub wrote-none : {o : ℕ} {d : List ℕ} → Wrote o [] d o d
+wrote-none {o} {d} = record { next = omega arith; laid = sym (lay-nil o d) }
+
 -- Two parts.
 module _ (a b : List ℕ) {o : ℕ} {d : List ℕ} (R : Room o (a ++ b) d) where
   pub room-front : Room o a d

@@ -131,7 +131,7 @@ pub fn put_zeros(out: &mut [u8], o: usize, first: u8, n: u8) -> usize
 }
 
 // A slot bound to 0.
-fn put_zero(out: &mut [u8], o: usize, slot: u8) -> usize
+pub fn put_zero(out: &mut [u8], o: usize, slot: u8) -> usize
     requires { ⌜ Room o ((1 ∷ slot ∷ []) ++ (0 ∷ 0 ∷ 0 ∷ 0 ∷ [])) (now out) ⌝ }
     ensures { λ r. ⌜ Wrote o ((1 ∷ slot ∷ []) ++ (0 ∷ 0 ∷ 0 ∷ 0 ∷ [])) (now (out .entry)) r (now (out .exit)) ⌝ }
 {

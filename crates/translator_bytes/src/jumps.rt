@@ -10,7 +10,61 @@ ghost use Rattle.parsing.specs.Bytes.{valueBytes};
 ghost use Rattle.procedure_operations.specs.Numbers.{maxVariables};
 ghost use Rattle.procedure_operations.specs.Operation.{argumentsAt};
 ghost use Rattle.translator_bytes.specs.Writes.{Room, Wrote, CallStands};
-ghost use Rattle.translator_bytes.specs.Bytes.{jumpHead, labelJump, callJump, plainCall, guardedCall, branchBytes, raiseBytes, raiseSize, differenceBytes, callBytes};
+ghost use Rattle.translator_bytes.specs.Bytes.{ifAny, sizeIfAny, jumpHead, labelJump, callJump, plainCall, guardedHead, guardedCall, branchBytes, raiseEnd, raiseBytes, raiseSize, raiseValueBytes, raiseValueSize, differenceBytes, callBytes};
+
+// What a block is translated under: the count of variables, the handler in force (0 for none), and two slots (0 for none): the one that a raise there binds first,
+// and the one in which a raised number goes on.
+pub struct Under {
+    pub variables: u8,
+    pub handler: u8,
+    pub bound: u8,
+    pub number: u8,
+}
+
+// n bytes of a slot, if any.
+pub fn size_if_any(slot: u8, n: usize) -> usize
+    ensures { λ r. ⌜ (r ≡ sizeIfAny slot n) × (r ≤ n) ⌝ }
+{
+    if slot == 0 { 0 } else { n }
+}
+
+// The byte of a slot, if any.
+fn put_slot_if_any(out: &mut [u8], o: usize, slot: u8) -> usize
+    requires { ⌜ Room o (ifAny slot (slot ∷ [])) (now out) ⌝ }
+    ensures { λ r. ⌜ Wrote o (ifAny slot (slot ∷ [])) (now (out .entry)) r (now (out .exit)) ⌝ }
+{
+    if slot == 0 {
+        o
+    } else {
+        bytes::put_one(out, o, slot)
+    }
+}
+
+// A slot, if any, bound to 0.
+fn put_zero_if_any(out: &mut [u8], o: usize, slot: u8) -> usize
+    requires { ⌜ Room o (ifAny slot ((1 ∷ slot ∷ []) ++ (0 ∷ 0 ∷ 0 ∷ 0 ∷ []))) (now out) ⌝ }
+    ensures { λ r. ⌜ Wrote o (ifAny slot ((1 ∷ slot ∷ []) ++ (0 ∷ 0 ∷ 0 ∷ 0 ∷ []))) (now (out .entry)) r (now (out .exit)) ⌝ }
+{
+    if slot == 0 {
+        o
+    } else {
+        bytes::put_zero(out, o, slot)
+    }
+}
+
+// A slot, if any, bound to a variable's value.
+fn put_value_if_any(out: &mut [u8], o: usize, slot: u8, y: VariableNumber) -> usize
+    requires { ⌜ y .0 < maxVariables ⌝ }
+    requires { ⌜ Room o (ifAny slot (2 ∷ slot ∷ (y .0 + 2) ∷ [])) (now out) ⌝ }
+    ensures { λ r. ⌜ Wrote o (ifAny slot (2 ∷ slot ∷ (y .0 + 2) ∷ [])) (now (out .entry)) r (now (out .exit)) ⌝ }
+{
+    let from = bytes::slot_of(y);
+    if slot == 0 {
+        o
+    } else {
+        bytes::put_three(out, o, 2, slot, from)
+    }
+}
 
 // The length of a jump: 6 plus the number of values, 0 to 32.
 pub fn jump_size(values: usize) -> usize
@@ -82,32 +136,41 @@ fn put_plain_call(
     put_call_jump(file, at, out, b, g, k, 1, n)
 }
 
+// The slots of tag 9.
+fn put_guarded_head(out: &mut [u8], o: usize, k: u8, target: u8, t: u8, number: u8) -> usize
+    requires { ⌜ Room o (guardedHead k target t number) (now out) ⌝ }
+    ensures { λ r. ⌜ Wrote o (guardedHead k target t number) (now (out .entry)) r (now (out .exit)) ⌝ }
+{
+    let a = bytes::put_four(out, o, 9, k, target, t);
+    put_slot_if_any(out, a, number)
+}
+
 fn put_guarded_call(
     file: &[u8],
     at: usize,
     out: &mut [u8],
     o: usize,
     base: usize,
-    v: u8,
-    h: u8,
+    u: Under,
     x: VariableNumber,
     g: usize,
     n: u8,
 ) -> usize
-    requires { ⌜ (base ≤ 2048) × (v ≤ maxVariables) × (x .0 < maxVariables) × (n ≤ maxVariables) × (g < 65536) × CallStands (now file) at n ⌝ }
-    requires { ⌜ Room o (guardedCall base v h (x .0) g n (argumentsAt (now file) at n)) (now out) ⌝ }
-    ensures { λ r. ⌜ Wrote o (guardedCall base v h (x .0) g n (argumentsAt (now (file .entry)) at n)) (now (out .entry)) r (now (out .exit)) ⌝ }
+    requires { ⌜ (base ≤ 2048) × (u .variables ≤ maxVariables) × (x .0 < maxVariables) × (n ≤ maxVariables) × (g < 65536) × CallStands (now file) at n ⌝ }
+    requires { ⌜ Room o (guardedCall base u (x .0) g n (argumentsAt (now file) at n)) (now out) ⌝ }
+    ensures { λ r. ⌜ Wrote o (guardedCall base u (x .0) g n (argumentsAt (now (file .entry)) at n)) (now (out .entry)) r (now (out .exit)) ⌝ }
 {
+    let v = u.variables;
     let k = v + 2;
     let target = bytes::slot_of(x);
     let t = v + 3;
     let size = jump_size(n as usize);
     let other = jump_size(v as usize);
-    let a = bytes::put_four(out, o, 9, k, target, t);
+    let a = put_guarded_head(out, o, k, target, t, u.number);
     let b = bytes::put_pair(out, a, size);
     let e = put_call_jump(file, at, out, b, g, k, t, n);
     let f = bytes::put_pair(out, e, other);
-    put_label_jump(out, f, base, v, h)
+    put_label_jump(out, f, base, v, u.handler)
 }
 
 // 4 call, under the handler in force.
@@ -117,20 +180,19 @@ pub fn put_call(
     out: &mut [u8],
     o: usize,
     base: usize,
-    v: u8,
-    h: u8,
+    u: Under,
     x: VariableNumber,
     g: usize,
     n: u8,
 ) -> usize
-    requires { ⌜ (base ≤ 2048) × (v ≤ maxVariables) × (x .0 < maxVariables) × (n ≤ maxVariables) × (g < 65536) × CallStands (now file) at n ⌝ }
-    requires { ⌜ Room o (callBytes base v h (x .0) g n (argumentsAt (now file) at n)) (now out) ⌝ }
-    ensures { λ r. ⌜ Wrote o (callBytes base v h (x .0) g n (argumentsAt (now (file .entry)) at n)) (now (out .entry)) r (now (out .exit)) ⌝ }
+    requires { ⌜ (base ≤ 2048) × (u .variables ≤ maxVariables) × (x .0 < maxVariables) × (n ≤ maxVariables) × (g < 65536) × CallStands (now file) at n ⌝ }
+    requires { ⌜ Room o (callBytes base u (x .0) g n (argumentsAt (now file) at n)) (now out) ⌝ }
+    ensures { λ r. ⌜ Wrote o (callBytes base u (x .0) g n (argumentsAt (now (file .entry)) at n)) (now (out .entry)) r (now (out .exit)) ⌝ }
 {
-    if h == 0 {
-        put_plain_call(file, at, out, o, v, x, g, n)
+    if u.handler == 0 {
+        put_plain_call(file, at, out, o, u.variables, x, g, n)
     } else {
-        put_guarded_call(file, at, out, o, base, v, h, x, g, n)
+        put_guarded_call(file, at, out, o, base, u, x, g, n)
     }
 }
 
@@ -159,24 +221,66 @@ pub fn put_branch(
 }
 
 // How many bytes a raise becomes, under the handler in force.
-pub fn raise_size(v: u8, h: u8) -> usize
-    requires { ⌜ v ≤ maxVariables ⌝ }
-    ensures { λ r. ⌜ (r ≡ raiseSize v h) × (r ≤ 6 + maxVariables) ⌝ }
+pub fn raise_size(u: Under) -> usize
+    requires { ⌜ u .variables ≤ maxVariables ⌝ }
+    ensures { λ r. ⌜ (r ≡ raiseSize u) × (r ≤ 12 + maxVariables) ⌝ }
 {
-    let jump = jump_size(v as usize);
-    if h == 0 { 2 } else { jump }
+    let jump = jump_size(u.variables as usize);
+    let first = size_if_any(u.bound, 6);
+    let last = size_if_any(u.number, 1);
+    if u.handler == 0 {
+        first + (2 + last)
+    } else {
+        first + jump
+    }
+}
+
+// The end of a raise of 0: tag 6, or the jump to the handler.
+fn put_raise_end(out: &mut [u8], o: usize, base: usize, u: Under) -> usize
+    requires { ⌜ (base ≤ 2048) × (u .variables ≤ maxVariables) ⌝ }
+    requires { ⌜ Room o (raiseEnd base u) (now out) ⌝ }
+    ensures { λ r. ⌜ Wrote o (raiseEnd base u) (now (out .entry)) r (now (out .exit)) ⌝ }
+{
+    if u.handler == 0 {
+        let a = bytes::put_two(out, o, 6, 1);
+        put_slot_if_any(out, a, u.number)
+    } else {
+        put_label_jump(out, o, base, u.variables, u.handler)
+    }
 }
 
 // 8 raise, under the handler in force.
-pub fn put_raise(out: &mut [u8], o: usize, base: usize, v: u8, h: u8) -> usize
-    requires { ⌜ (base ≤ 2048) × (v ≤ maxVariables) ⌝ }
-    requires { ⌜ Room o (raiseBytes base v h) (now out) ⌝ }
-    ensures { λ r. ⌜ Wrote o (raiseBytes base v h) (now (out .entry)) r (now (out .exit)) ⌝ }
+pub fn put_raise(out: &mut [u8], o: usize, base: usize, u: Under) -> usize
+    requires { ⌜ (base ≤ 2048) × (u .variables ≤ maxVariables) ⌝ }
+    requires { ⌜ Room o (raiseBytes base u) (now out) ⌝ }
+    ensures { λ r. ⌜ Wrote o (raiseBytes base u) (now (out .entry)) r (now (out .exit)) ⌝ }
 {
-    if h == 0 {
-        bytes::put_two(out, o, 6, 1)
+    let a = put_zero_if_any(out, o, u.bound);
+    put_raise_end(out, a, base, u)
+}
+
+// How many bytes a raise of a variable's value becomes, under the handler in force.
+pub fn raise_value_size(u: Under) -> usize
+    requires { ⌜ u .variables ≤ maxVariables ⌝ }
+    ensures { λ r. ⌜ (r ≡ raiseValueSize u) × (r ≤ 12 + maxVariables) ⌝ }
+{
+    let jump = jump_size(u.variables as usize);
+    let first = size_if_any(u.bound, 3);
+    if u.handler == 0 { 3 } else { first + jump }
+}
+
+// 9 raise of a variable's value, under the handler in force.
+pub fn put_raise_value(out: &mut [u8], o: usize, base: usize, u: Under, y: VariableNumber) -> usize
+    requires { ⌜ (base ≤ 2048) × (u .variables ≤ maxVariables) × (y .0 < maxVariables) ⌝ }
+    requires { ⌜ Room o (raiseValueBytes base u (y .0)) (now out) ⌝ }
+    ensures { λ r. ⌜ Wrote o (raiseValueBytes base u (y .0)) (now (out .entry)) r (now (out .exit)) ⌝ }
+{
+    if u.handler == 0 {
+        let value = bytes::slot_of(y);
+        bytes::put_three(out, o, 6, 1, value)
     } else {
-        put_label_jump(out, o, base, v, h)
+        let a = put_value_if_any(out, o, u.bound, y);
+        put_label_jump(out, a, base, u.variables, u.handler)
     }
 }
 
@@ -207,23 +311,22 @@ pub fn put_difference(
     out: &mut [u8],
     o: usize,
     base: usize,
-    v: u8,
-    h: u8,
+    u: Under,
     x: VariableNumber,
     y: VariableNumber,
     z: VariableNumber,
 ) -> usize
-    requires { ⌜ (base ≤ 2048) × (v ≤ maxVariables) × (x .0 < maxVariables) × (y .0 < maxVariables) × (z .0 < maxVariables) ⌝ }
-    requires { ⌜ Room o (differenceBytes base v h (x .0) (y .0) (z .0)) (now out) ⌝ }
-    ensures { λ r. ⌜ Wrote o (differenceBytes base v h (x .0) (y .0) (z .0)) (now (out .entry)) r (now (out .exit)) ⌝ }
+    requires { ⌜ (base ≤ 2048) × (u .variables ≤ maxVariables) × (x .0 < maxVariables) × (y .0 < maxVariables) × (z .0 < maxVariables) ⌝ }
+    requires { ⌜ Room o (differenceBytes base u (x .0) (y .0) (z .0)) (now out) ⌝ }
+    ensures { λ r. ⌜ Wrote o (differenceBytes base u (x .0) (y .0) (z .0)) (now (out .entry)) r (now (out .exit)) ⌝ }
 {
     let target = bytes::slot_of(x);
     let left = bytes::slot_of(y);
     let right = bytes::slot_of(z);
-    let size = raise_size(v, h);
+    let size = raise_size(u);
     let a = bytes::put_four(out, o, 10, target, left, right);
     let b = bytes::put_pair(out, a, size);
-    put_raise(out, b, base, v, h)
+    put_raise(out, b, base, u)
 }
 
 // 6 return

@@ -4,10 +4,11 @@ use native.Mathlib.Omega.{arith}
 use native.Mathlib.Numerals.{add-one}
 use mathlib.Core.Path.{_≡_, refl, sym, ap, _∙_}
 use mathlib.Core.List.{List, [], _∷_, _++_}
+use mathlib.Core.Option.{none}
 use lib.ListN.{length, getD, drop, length-append, drop-of-length-le}
 use lib.Seq.{drop-cons}
 use Rattle.parsing.specs.Parser.{joined}
-use Rattle.semantics.specs.Program.{Function, variables, functionOf}
+use Rattle.semantics.specs.Program.{Function, functionOf}
 use Rattle.semantics.specs.Code.{Target, Code, handle}
 use Rattle.semantics.specs.Translation.{blockTarget, targets, number, translateFunction}
 use Rattle.semantics.specs.TranslationLaws.{length-translateFunction}
@@ -19,7 +20,7 @@ use Rattle.translator_sizes.specs.Parts.{partOf, labelBytes, functionByt
 use Rattle.translator_sizes.specs.Standing.{LabelSize}
 
 noTarget : Target
-noTarget = record { params = 0; body = handle 0 }
+noTarget = record { version = 1; params = 0; body = handle 0 none }
 
 -- The blocks of function f from label l on.
 abbrev pub codeFrom : List ℕ → ℕ → ℕ → Code
@@ -55,7 +56,7 @@ blocks-more s f l h =
 
     is : (i : ℕ) → i ≤ length (F .blocks) → getD whole i noTarget ≡ partOf ns base F i
     is zero k = refl
-    is (suc i) k = getD-map-below (blockTarget ns base (variables F)) (F .blocks) i noLabelled noTarget k
+    is (suc i) k = getD-map-below (blockTarget ns base F) (F .blocks) i noLabelled noTarget k
 
 pub blocks-none : (s : List ℕ) (f l : ℕ) → length (functionOf (programOf s) f .blocks) < l → blocksFrom s f l ≡ []
 unfolding blocksFrom

@@ -3,6 +3,8 @@ pub mod Parts
 pub mod Standing
 -- Laws.
 pub mod SizeLaws
+pub mod UnderLaws
+pub mod BodyLaws
 pub mod OperationLaws
 pub mod CountLaws
 pub mod PartLaws

@@ -1,24 +1,27 @@
 -- The part of a block: its bytes from its fields, and its size.
 use Prim.Native.Nat.{ℕ, zero, suc, _+_, _*_, _≤_, _<_}
 use native.Mathlib.Omega.{arith}
-use mathlib.Core.Path.{_≡_, refl, ap, _∙_}
+use mathlib.Core.Path.{_≡_, refl, sym, ap, _∙_}
 use mathlib.Core.List.{List, _∷_, _++_}
 use lib.ListN.{length, length-append}
 use Rattle.parsing.specs.Bytes.{pairBytes}
-use Rattle.semantics.specs.Program.{Function, Program, variables, functionOf}
+use Rattle.semantics.specs.Program.{Block, Function, Program, variables, functionOf}
 use Rattle.semantics.specs.Code.{Expr}
-use Rattle.semantics.specs.Translation.{slotOf, bindZeros, number}
+use Rattle.semantics.specs.Translation.{slotOf, code, bindZeros, number}
+use Rattle.procedure_layout.specs.Rest.{restAt}
 use Rattle.procedure_file.specs.Check.{programOf}
-use Rattle.procedure_file.specs.Places.{startOf, handlerOf}
+use Rattle.procedure_file.specs.Places.{startOf, blockOf, handlerOf}
 use Rattle.procedure_file.specs.FileInvariant.{FileInvariant}
 use Rattle.procedure_file.specs.Loaded.{Loaded}
 use Rattle.procedure_file.specs.LoadedLaws.{loaded-invariant}
 use Rattle.target_file.specs.Writing.{size, exprBytes, targetBytes}
+use Rattle.translator_bytes.specs.declared.jumps.Under.{Under}
 use Rattle.translator_bytes.specs.Bytes.{zeros}
 use Rattle.translator_sizes.specs.declared.Fields.{Fields}
-use Rattle.translator_sizes.specs.Parts.{bodyAt, bytesAt, partBytes, byLabel, fieldsOf, labelBytes}
+use Rattle.translator_sizes.specs.Parts.{underOf, bodyBytes, bytesAt, partBytes, byLabel, fieldsOf, labelBytes}
 use Rattle.translator_sizes.specs.Standing.{OperationStands, BlockSize, LabelSize}
 use Rattle.translator_sizes.specs.SizeLaws.{length-zeros}
+use Rattle.translator_sizes.specs.BodyLaws.{body-is}
 use Rattle.target_file.specs.ReadsBackLaws.{bytes-length}
 
 by-label-other : (l a b : ℕ) → (l ≡ 0 → ⊥) → b ≡ byLabel l a b
@@ -37,34 +40,39 @@ zeros-size x n e =
     let c : length (zeros x n) ≡ 6 * n = length-zeros x n in
     omega arith
 
-part-is : (s : List ℕ) (base p n v h at : ℕ)
-    → targetBytes (record { params = p; body = bindZeros (slotOf p) n (bodyAt s base v h at) }) ≡ partBytes s base p n v h at
-unfolding partBytes bytesAt
-part-is s base p n v h at =
-    let e = bodyAt s base v h at in
+part-is : (s : List ℕ) (base p n : ℕ) (u : Under) (at version : ℕ) (e : Expr) → exprBytes e ≡ bytesAt s base u at
+    → targetBytes (record { version = version; params = p; body = bindZeros (slotOf p) n e }) ≡ partBytes s base p n u at
+unfolding partBytes
+part-is s base p n u at version e q =
     let t : suc (suc p) ≡ p + 2 = omega arith in
     ap (λ (k : ℕ). p ∷ (pairBytes k ++ exprBytes (bindZeros (slotOf p) n e))) (zeros-size (slotOf p) n e)
     ∙ (ap (λ (w : List ℕ). p ∷ (pairBytes (6 * n + length (exprBytes e)) ++ w)) (zeros-are (slotOf p) n e)
-    ∙ ap (λ (x : ℕ). p ∷ (pairBytes (6 * n + length (exprBytes e)) ++ (zeros x n ++ exprBytes e))) t)
+    ∙ (ap (λ (x : ℕ). p ∷ (pairBytes (6 * n + length (exprBytes e)) ++ (zeros x n ++ exprBytes e))) t
+    ∙ ap (λ (w : List ℕ). p ∷ (pairBytes (6 * n + length w) ++ (zeros (p + 2) n ++ w))) q))
 
 -- Its size.
-pub part-size : (s : List ℕ) (base p n v h at : ℕ) → length (partBytes s base p n v h at) ≡ 3 + (6 * n + length (bytesAt s base v h at))
+pub part-size : (s : List ℕ) (base p n : ℕ) (u : Under) (at : ℕ) → length (partBytes s base p n u at) ≡ 3 + (6 * n + length (bytesAt s base u at))
 unfolding partBytes
-part-size s base p n v h at =
-    let a : length (zeros (p + 2) n ++ bytesAt s base v h at) ≡ length (zeros (p + 2) n) + length (bytesAt s base v h at) = length-append (zeros (p + 2) n) (bytesAt s base v h at) in
+part-size s base p n u at =
+    let a : length (zeros (p + 2) n ++ bytesAt s base u at) ≡ length (zeros (p + 2) n) + length (bytesAt s base u at) = length-append (zeros (p + 2) n) (bytesAt s base u at) in
     let b : length (zeros (p + 2) n) ≡ 6 * n = length-zeros (p + 2) n in
     omega arith
 
 -- The fields of a block, as they are read.
-module _ (P : Program) (f l own others v h at : ℕ) (ep : own ≡ functionOf P f .params) (el : others ≡ functionOf P f .locals) (ev : v ≡ own + others)
+module _ (P : Program) (f l own others v : ℕ) (u : Under) (at : ℕ) (ep : own ≡ functionOf P f .params) (el : others ≡ functionOf P f .locals) (ev : v ≡ own + others)
     (ea : at ≡ startOf P f l) where
-  pub entry-fields : l ≡ 0 → record { params = own; locals = others; variables = v; handler = 0; start = at } ≡ fieldsOf P f l
+  pub entry-fields : l ≡ 0 → u ≡ underOf (functionOf P f) 0 → record { params = own; locals = others; under = u; start = at } ≡ fieldsOf P f l
   unfolding fieldsOf
-  entry-fields z = rw (ev, ep, el, ea, z)
+  entry-fields z eu = rw (eu, ep, el, ea, z)
 
-  pub label-fields : (l ≡ 0 → ⊥) → h ≡ handlerOf (functionOf P f) l → record { params = v; locals = 0; variables = v; handler = h; start = at } ≡ fieldsOf P f l
+  pub label-fields : (l ≡ 0 → ⊥) → {h : ℕ} → h ≡ handlerOf (functionOf P f) l → u ≡ underOf (functionOf P f) h → record { params = v; locals = 0; under = u; start = at } ≡ fieldsOf P f l
   unfolding fieldsOf
-  label-fields n eh = rw (ev, ep, el, ea, eh, ← by-label-other l (functionOf P f .params) (variables (functionOf P f)) n, ← by-label-other l (functionOf P f .locals) 0 n)
+  label-fields n eh eu = rw (eu, eh, ev, ep, el, ea, ← by-label-other l (functionOf P f .params) (variables (functionOf P f)) n, ← by-label-other l (functionOf P f .locals) 0 n)
+
+-- The writing of a block's translation is what stands for it at its offset.
+bytes-at : (s : List ℕ) (base : ℕ) (F : Function) (h : ℕ) (b : Block) (at : ℕ) → restAt s at ≡ b → exprBytes (code (number (programOf s)) base F h b) ≡ bytesAt s base (underOf F h) at
+unfolding bytesAt
+bytes-at s base F h b at e = body-is base F (number (programOf s)) h b ∙ ap (bodyBytes (number (programOf s)) base (underOf F h)) (sym e)
 
 -- A loaded file.
 module _ {s starts : List ℕ} (L : Loaded s starts) where
@@ -77,16 +85,20 @@ module _ {s starts : List ℕ} (L : Loaded s starts) where
 
     -- The part of one block, from its fields.
     module _ (l : ℕ) (block : l ≤ length (F .blocks)) (x : Fields) (e : x ≡ fieldsOf (programOf s) f l) where
-      pub label-here : OperationStands s (x .variables) (x .start)
-      unfolding fieldsOf
+      pub label-here : OperationStands s (x .under .variables) (x .start)
+      unfolding fieldsOf underOf
       label-here = rw e (record { invariant = known; function = f; stands = known .start f l there block; vars = refl })
 
-      pub label-is : labelBytes s f l ≡ partBytes s (number (programOf s) f) (x .params) (x .locals) (x .variables) (x .handler) (x .start)
-      unfolding fieldsOf labelBytes bodyAt
+      pub label-is : labelBytes s f l ≡ partBytes s (number (programOf s) f) (x .params) (x .locals) (x .under) (x .start)
+      unfolding fieldsOf labelBytes
       label-is =
           let P = programOf s in
-          rw (e, ← known .block f l there block)
-          (part-is s (number P f) (byLabel l (F .params) (variables F)) (byLabel l (F .locals) 0) (variables F) (handlerOf F l) (startOf P f l))
+          rw e
+          (part-is s (number P f) (byLabel l (F .params) (variables F)) (byLabel l (F .locals) 0) (underOf F (handlerOf F l)) (startOf P f l) (F .version)
+          (code (number P) (number P f) F (handlerOf F l) (blockOf F l)) written)
+        where
+          written : exprBytes (code (number (programOf s)) (number (programOf s) f) F (handlerOf F l) (blockOf F l)) ≡ bytesAt s (number (programOf s) f) (underOf F (handlerOf F l)) (startOf (programOf s) f l)
+          written = bytes-at s (number (programOf s) f) F (handlerOf F l) (blockOf F l) (startOf (programOf s) f l) (known .block f l there block)
 
       pub counts-bound : (x .params ≤ 32) × (x .locals ≤ 24)
       unfolding fieldsOf
@@ -97,8 +109,8 @@ module _ {s starts : List ℕ} (L : Loaded s starts) where
           by (suc k) = let c = known .counts f there in (omega (arith, c .params, c .locals), omega arith)
 
       -- Its size.
-      pub label-sized : (n k : ℕ) → n ≡ x .locals → BlockSize s (x .variables) (x .handler) (x .start) k → LabelSize s f l (3 + (6 * n + k))
+      pub label-sized : (n k : ℕ) → n ≡ x .locals → BlockSize s (x .under) (x .start) k → LabelSize s f l (3 + (6 * n + k))
       label-sized n k en B =
           let base = number (programOf s) f in
-          let a = ap length label-is ∙ part-size s base (x .params) (x .locals) (x .variables) (x .handler) (x .start) in
+          let a = ap length label-is ∙ part-size s base (x .params) (x .locals) (x .under) (x .start) in
           record { is = omega (arith, a, B .is base, en); sizeBound = omega (arith, B .sizeBound, en, counts-bound .1) }

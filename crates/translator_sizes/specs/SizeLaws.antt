@@ -1,14 +1,15 @@
 -- How many bytes each operation becomes.
 use Prim.Native.Nat.{ℕ, zero, suc, _+_, _*_}
 use native.Mathlib.Omega.{arith}
-use mathlib.Core.Path.{_≡_, refl}
-use mathlib.Core.List.{List, _++_}
-use mathlib.Core.Bool.{false}
+use mathlib.Core.Path.{_≡_, refl, ap, _∙_}
+use mathlib.Core.List.{List, [], _∷_, _++_}
+use mathlib.Core.Bool.{Bool, true, false, cond}
 use borrow.Author.Tests.{eq-eqb, ne-eqb}
 use lib.Dec.{eqb}
 use lib.ListN.{length, length-append}
 use Rattle.parsing.specs.Bytes.{pairBytes}
-use Rattle.translator_bytes.specs.Bytes.{labelJump, callJump, plainCall, guardedCall, branchBytes, raiseBytes, differenceBytes, callBytes, callSize, raiseSize, zeros}
+use Rattle.translator_bytes.specs.declared.jumps.Under.{Under}
+use Rattle.translator_bytes.specs.Bytes.{ifAny, sizeIfAny, labelJump, callJump, plainCall, guardedHead, guardedCall, branchBytes, raiseEnd, raiseBytes, raiseSize, raiseValueBytes, raiseValueSize, differenceBytes, callBytes, callSize, zeros}
 use Rattle.translator_bytes.specs.LengthLaws.{label-size, call-size}
 
 -- A handler in force is not 0.
@@ -23,18 +24,36 @@ pub plain-size : (v x g n : ℕ) (ys : List ℕ) → length ys ≡ n → length 
 unfolding plainCall
 plain-size v x g n ys e = let a = call-size g (v + 2) 1 n ys e in omega arith
 
-pub guarded-size : (base v h x g n : ℕ) (ys : List ℕ) → length ys ≡ n → length (guardedCall base v h x g n ys) ≡ 8 + ((6 + n) + (6 + v))
-unfolding guardedCall
-guarded-size base v h x g n ys e =
+-- Bytes of a slot, if any.
+pub any-size : (slot : ℕ) (w : List ℕ) {n : ℕ} → length w ≡ n → length (ifAny slot w) ≡ sizeIfAny slot n
+unfolding ifAny sizeIfAny
+any-size slot w {n} e = by (eqb slot 0)
+  where
+    by : (t : Bool) → length (cond t [] w) ≡ cond t 0 n
+    by true = refl
+    by false = e
+
+pub guarded-size : (base : ℕ) (u : Under) (x g n : ℕ) (ys : List ℕ) → length ys ≡ n
+    → length (guardedCall base u x g n ys) ≡ 8 + sizeIfAny (u .number) 1 + ((6 + n) + (6 + u .variables))
+unfolding guardedCall guardedHead
+guarded-size base u x g n ys e =
+    let v = u .variables in
     let a = call-size g (v + 2) (v + 3) n ys e in
-    let b = label-size base v h in
-    let c = length-append (callJump g (v + 2) (v + 3) n ys) (pairBytes (6 + v) ++ labelJump base v h) in
+    let b = label-size base v (u .handler) in
+    let c = length-append (callJump g (v + 2) (v + 3) n ys) (pairBytes (6 + v) ++ labelJump base v (u .handler)) in
+    let d : length (ifAny (u .number) (u .number ∷ [])) ≡ sizeIfAny (u .number) 1 = any-size (u .number) (u .number ∷ []) refl in
+    let tail = pairBytes (6 + n) ++ (callJump g (v + 2) (v + 3) n ys ++ (pairBytes (6 + v) ++ labelJump base v (u .handler))) in
+    let f = length-append (ifAny (u .number) (u .number ∷ [])) tail in
     omega arith
 
-pub called-size : (base v h x g n : ℕ) (ys : List ℕ) → length ys ≡ n → length (callBytes base v h x g n ys) ≡ callSize v h n
+pub called-size : (base : ℕ) (u : Under) (x g n : ℕ) (ys : List ℕ) → length ys ≡ n → length (callBytes base u x g n ys) ≡ callSize u n
 unfolding callBytes callSize
-called-size base v zero x g n ys e = plain-size v x g n ys e
-called-size base v (suc h) x g n ys e = rw (guarded-test h) (guarded-size base v (suc h) x g n ys e)
+called-size base u x g n ys e = by (eqb (u .handler) 0)
+  where
+    by : (t : Bool)
+        → length (cond t (plainCall (u .variables) x g n ys) (guardedCall base u x g n ys)) ≡ cond t (5 + (6 + n)) (8 + sizeIfAny (u .number) 1 + ((6 + n) + (6 + u .variables)))
+    by true = plain-size (u .variables) x g n ys e
+    by false = guarded-size base u x g n ys e
 
 pub branch-size : (base v y z l m : ℕ) → length (branchBytes base v y z l m) ≡ 5 + ((6 + v) + (6 + v))
 unfolding branchBytes
@@ -44,20 +63,48 @@ branch-size base v y z l m =
     let c = length-append (labelJump base v l) (labelJump base v m) in
     omega arith
 
-pub raise-size : (base v h : ℕ) → length (raiseBytes base v h) ≡ raiseSize v h
-unfolding raiseBytes raiseSize
-raise-size base v zero = refl
-raise-size base v (suc h) = rw (guarded-test h) (label-size base v (suc h))
+-- The end of a raise, and what it binds before.
+end-size : (base : ℕ) (u : Under) → length (raiseEnd base u) ≡ cond (eqb (u .handler) 0) (2 + sizeIfAny (u .number) 1) (6 + u .variables)
+unfolding raiseEnd
+end-size base u = by (eqb (u .handler) 0)
+  where
+    by : (t : Bool)
+        → length (cond t ((6 ∷ 1 ∷ []) ++ ifAny (u .number) (u .number ∷ [])) (labelJump base (u .variables) (u .handler))) ≡ cond t (2 + sizeIfAny (u .number) 1) (6 + u .variables)
+    by true = let a : length (ifAny (u .number) (u .number ∷ [])) ≡ sizeIfAny (u .number) 1 = any-size (u .number) (u .number ∷ []) refl in omega arith
+    by false = label-size base (u .variables) (u .handler)
 
-pub difference-size : (base v h x y z : ℕ) → length (differenceBytes base v h x y z) ≡ 6 + raiseSize v h
+pub raise-size : (base : ℕ) (u : Under) → length (raiseBytes base u) ≡ raiseSize u
+unfolding raiseBytes raiseSize
+raise-size base u =
+    let w = (1 ∷ u .bound ∷ []) ++ (0 ∷ 0 ∷ 0 ∷ 0 ∷ []) in
+    length-append (ifAny (u .bound) w) (raiseEnd base u)
+    ∙ (ap (λ (n : ℕ). n + length (raiseEnd base u)) (any-size (u .bound) w refl) ∙ ap (λ (n : ℕ). sizeIfAny (u .bound) 6 + n) (end-size base u))
+
+pub raise-value-size : (base : ℕ) (u : Under) (y : ℕ) → length (raiseValueBytes base u y) ≡ raiseValueSize u
+unfolding raiseValueBytes raiseValueSize
+raise-value-size base u y = by (eqb (u .handler) 0)
+  where
+    w : List ℕ
+    w = 2 ∷ u .bound ∷ (y + 2) ∷ []
+
+    jump : List ℕ
+    jump = labelJump base (u .variables) (u .handler)
+
+    by : (t : Bool) → length (cond t (6 ∷ 1 ∷ (y + 2) ∷ []) (ifAny (u .bound) w ++ jump)) ≡ cond t 3 (sizeIfAny (u .bound) 3 + (6 + u .variables))
+    by true = refl
+    by false =
+        length-append (ifAny (u .bound) w) jump
+        ∙ (ap (λ (n : ℕ). n + length jump) (any-size (u .bound) w refl) ∙ ap (λ (n : ℕ). sizeIfAny (u .bound) 3 + n) (label-size base (u .variables) (u .handler)))
+
+pub difference-size : (base : ℕ) (u : Under) (x y z : ℕ) → length (differenceBytes base u x y z) ≡ 6 + raiseSize u
 unfolding differenceBytes
-difference-size base v h x y z = let a = raise-size base v h in omega arith
+difference-size base u x y z = let a = raise-size base u in omega arith
 
 -- The sizes by the handler in force, as they are computed.
-pub plain-sum : (v h n : ℕ) {j : ℕ} → h ≡ 0 → j ≡ 6 + n → 5 + j ≡ callSize v h n
+pub plain-sum : (u : Under) (n : ℕ) {j : ℕ} → u .handler ≡ 0 → j ≡ 6 + n → 5 + j ≡ callSize u n
 unfolding callSize
-plain-sum v h n e q = rw (eq-eqb h 0 e, q)
+plain-sum u n e q = rw (eq-eqb (u .handler) 0 e, q)
 
-pub guarded-sum : (v h n : ℕ) {j k : ℕ} → (h ≡ 0 → ⊥) → j ≡ 6 + n → k ≡ 6 + v → 8 + (j + k) ≡ callSize v h n
+pub guarded-sum : (u : Under) (n : ℕ) {j k i : ℕ} → (u .handler ≡ 0 → ⊥) → j ≡ 6 + n → k ≡ 6 + u .variables → i ≡ sizeIfAny (u .number) 1 → 8 + i + (j + k) ≡ callSize u n
 unfolding callSize
-guarded-sum v h n e q r = rw (ne-eqb h 0 e, q, r)
+guarded-sum u n e q r t = rw (ne-eqb (u .handler) 0 e, q, r, t)

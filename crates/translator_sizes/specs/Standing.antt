@@ -5,10 +5,11 @@ use mathlib.Core.List.{List}
 use lib.ListN.{length}
 use Rattle.semantics.specs.Program.{variables, functionOf}
 use Rattle.procedure_operations.specs.declared.operation.Operation.{Operation}
-use Rattle.procedure_operations.specs.declared.operation.Operation.the-variants.{Constant, Copy, Difference, Call, Goto, Return, Branch, Raise, Refused}
+use Rattle.procedure_operations.specs.declared.operation.Operation.the-variants.{Constant, Copy, Difference, Call, Goto, Return, Branch, Raise, RaiseValue, Refused}
 use Rattle.procedure_layout.specs.Layout.{maxVariables}
 use Rattle.procedure_file.specs.Check.{programOf}
 use Rattle.procedure_file.specs.FileInvariant.{FileInvariant, Stands}
+use Rattle.translator_bytes.specs.declared.jumps.Under.{Under}
 use Rattle.translator_sizes.specs.Parts.{bytesAt, labelBytes}
 
 -- An operation of a function with v variables stands at an offset.
@@ -28,11 +29,12 @@ CountInRange (Goto l next) = Unit {0}
 CountInRange (Return x next) = Unit {0}
 CountInRange (Branch y z l m next) = Unit {0}
 CountInRange (Raise next) = Unit {0}
+CountInRange (RaiseValue y next) = Unit {0}
 CountInRange (Refused r) = Unit {0}
 
 -- The size of a block's body, whatever number its function has.
-pub record BlockSize (s : List ℕ) (v h at r : ℕ) : Type 0 where
-  pub is : (base : ℕ) → r ≡ length (bytesAt s base v h at)
+pub record BlockSize (s : List ℕ) (u : Under) (at r : ℕ) : Type 0 where
+  pub is : (base : ℕ) → r ≡ length (bytesAt s base u at)
   pub sizeBound : r ≤ 4194304
 
 -- The size of the part of a block.

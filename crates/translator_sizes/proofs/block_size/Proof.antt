@@ -10,10 +10,10 @@ use Rattle.procedure_layout.proofs.layout.after_of.Reads as after-of-reads
 use Rattle.procedure_operations.proofs.operation.operation_at.Reads as operation-at-reads
 
 abbrev Inv-loop : tie.InvT-loop
-Inv-loop file v h start at₀ n₀ at n = Counting file v h start at n
+Inv-loop file u start at₀ n₀ at n = Counting file u start at n
 
 abbrev μ-loop : tie.MeasureT-loop
-μ-loop file v h start at₀ n₀ at n = length file - at
+μ-loop file u start at₀ n₀ at n = length file - at
 
 -- Ways back to earlier places that several answers take.
 abbrev after-of-before-known-told : tie.After-known-told Inv-loop μ-loop → tie.After-after-of Inv-loop μ-loop

@@ -51,6 +51,12 @@ raise-size-requires c κs = search needs
 enum-told-8 : tie.Need-enum-told-8
 enum-told-8 c = search needs
 
+raise-value-size-requires : tie.Need-raise-value-size-requires
+raise-value-size-requires c κs = search needs
+
+enum-told-9 : tie.Need-enum-told-9
+enum-told-9 c = search needs
+
 returns : tie.Need-returns
 returns c = search needs
 
@@ -60,17 +66,17 @@ returns-2 c = search needs
 returns-3 : tie.Need-returns-3
 returns-3 c =
     let entry = c .before .before .before in
-    (c .difference-size .ensures .0 ∙ sym (ap (operationSize (entry .args .v) (entry .args .h)) (c .before .enum-told3 .given .1)), c .difference-size .ensures .1)
+    (c .difference-size .ensures .0 ∙ sym (ap (operationSize (entry .args .u)) (c .before .enum-told3 .given .1)), c .difference-size .ensures .1)
 
 returns-4 : tie.Need-returns-4
 returns-4 c =
     let entry = c .before .before .before .before in
-    (c .call-size .ensures .0 ∙ sym (ap (operationSize (entry .args .v) (entry .args .h)) (c .before .before .x .given .1)), c .call-size .ensures .1)
+    (c .call-size .ensures .0 ∙ sym (ap (operationSize (entry .args .u)) (c .before .before .x .given .1)), c .call-size .ensures .1)
 
 returns-5 : tie.Need-returns-5
 returns-5 c =
     let entry = c .before .before .before in
-    (c .goto-size .ensures .0 ∙ sym (ap (operationSize (entry .args .v) (entry .args .h)) (c .before .enum-told4 .given .1)), c .goto-size .ensures .1)
+    (c .goto-size .ensures .0 ∙ sym (ap (operationSize (entry .args .u)) (c .before .enum-told4 .given .1)), c .goto-size .ensures .1)
 
 returns-6 : tie.Need-returns-6
 returns-6 c = search needs
@@ -78,15 +84,20 @@ returns-6 c = search needs
 returns-7 : tie.Need-returns-7
 returns-7 c =
     let entry = c .before .before .before in
-    (c .branch-size .ensures .0 ∙ sym (ap (operationSize (entry .args .v) (entry .args .h)) (c .before .enum-told6 .given .1)), c .branch-size .ensures .1)
+    (c .branch-size .ensures .0 ∙ sym (ap (operationSize (entry .args .u)) (c .before .enum-told6 .given .1)), c .branch-size .ensures .1)
 
 returns-8 : tie.Need-returns-8
 returns-8 c =
     let entry = c .before .before .before in
-    (c .raise-size .ensures .0 ∙ sym (ap (operationSize (entry .args .v) (entry .args .h)) (c .before .enum-told7 .given .1)), omega (arith, c .raise-size .ensures .1))
+    (c .raise-size .ensures .0 ∙ sym (ap (operationSize (entry .args .u)) (c .before .enum-told7 .given .1)), omega (arith, c .raise-size .ensures .1))
 
 returns-9 : tie.Need-returns-9
-returns-9 c = search needs
+returns-9 c =
+    let entry = c .before .before .before in
+    (c .raise-value-size .ensures .0 ∙ sym (ap (operationSize (entry .args .u)) (c .before .enum-told8 .given .1)), omega (arith, c .raise-value-size .ensures .1))
+
+returns-10 : tie.Need-returns-10
+returns-10 c = search needs
 
 pub operation-size-spec : {M : Type 1} → statement M
 operation-size-spec =
@@ -106,6 +117,8 @@ operation-size-spec =
     enum-told-7
     raise-size-requires
     enum-told-8
+    raise-value-size-requires
+    enum-told-9
     returns
     returns-2
     returns-3
@@ -114,4 +127,5 @@ operation-size-spec =
     returns-6
     returns-7
     returns-8
-    returns-9)
+    returns-9
+    returns-10)

@@ -10,10 +10,10 @@ use Rattle.translator.proofs.blocks.put_block.Statement.{statement}
 use Rattle.translator.proofs.blocks.put_block.Tie as tie
 
 abbrev Inv-loop : tie.InvT-loop
-Inv-loop file numbers base v h start out₀ o at₀ place₀ out at place = Turn file numbers base v h start o out₀ at place out
+Inv-loop file numbers base u start out₀ o at₀ place₀ out at place = Turn file numbers base u start o out₀ at place out
 
 abbrev μ-loop : tie.MeasureT-loop
-μ-loop file numbers base v h start out₀ o at₀ place₀ out at place = length file - at
+μ-loop file numbers base u start out₀ o at₀ place₀ out at place = length file - at
 
 -- Ways back to earlier places that several answers take.
 abbrev put-operation-before-operation-at : tie.After-operation-at Inv-loop μ-loop → tie.After-put-operation Inv-loop μ-loop

@@ -36,7 +36,7 @@ put-call-requires c κs =
     let P = entry .pre .0 .0 in
     let e = entry .pre .0 .1 in (
       (P .baseBound, variables-bound (P .here), arm-numbers P e .0, call-count P e, at-offset-number .offset-number .ensures .1, call-stands P e),
-      room-as (callee-is (entry .args .base) (entry .args .v) (entry .args .h) (entry .args .x .target .0) (entry .args .x .count) (entry .args .x .function .0) _ _ (entry .args .numbers .now)
+      room-as (callee-is (entry .args .base) (entry .args .u) (entry .args .x .target .0) (entry .args .x .count) (entry .args .x .function .0) _ _ (entry .args .numbers .now)
           (argumentsAt (entry .args .file .now) (entry .args .at) (entry .args .x .count)) (at-index .index .ensures) (at-offset-number .offset-number .ensures .0)) (entry .pre .1),
     )
 
@@ -49,7 +49,7 @@ returns c =
     let at-index = at-offset-number .before .before in
     let entry = entry-before-index at-index in
     wrote-as
-    (callee-is (entry .args .base) (entry .args .v) (entry .args .h) (entry .args .x .target .0) (entry .args .x .count) (entry .args .x .function .0) _ _ (entry .args .numbers .now)
+    (callee-is (entry .args .base) (entry .args .u) (entry .args .x .target .0) (entry .args .x .count) (entry .args .x .function .0) _ _ (entry .args .numbers .now)
     (argumentsAt (entry .args .file .now) (entry .args .at) (entry .args .x .count)) (at-index .index .ensures) (at-offset-number .offset-number .ensures .0))
     (c .before .before .put-call .ensures)
 

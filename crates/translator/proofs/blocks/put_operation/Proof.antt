@@ -28,6 +28,9 @@ entry-before-return-fields c = c .before .before .before .before .before
 abbrev entry-before-branch-fields : tie.After-branch-fields → tie.Start
 entry-before-branch-fields c = c .before .before .before .before .before
 
+abbrev entry-before-raise-value-fields : tie.After-raise-value-fields → tie.Start
+entry-before-raise-value-fields c = c .before .before .before .before .before
+
 abbrev entry-before-match-rest : tie.At-match-rest → tie.Start
 entry-before-match-rest c = c .before .before .before .before
 
@@ -45,7 +48,7 @@ constant-bytes-requires c κs =
 put-constant-requires : tie.Need-put-constant-requires
 put-constant-requires c κs =
     let entry = entry-before-constant-bytes c in
-    (arm-numbers (entry .pre .0) (c .constant-bytes .ensures), arm-room (entry .args .file .now) (entry .args .numbers .now) (entry .args .base) (entry .args .v) (entry .args .h) (entry .args .at) (c .constant-bytes .ensures) (entry .pre .1))
+    (arm-numbers (entry .pre .0) (c .constant-bytes .ensures), arm-room (entry .args .file .now) (entry .args .numbers .now) (entry .args .base) (entry .args .u) (entry .args .at) (c .constant-bytes .ensures) (entry .pre .1))
 
 copy-fields-requires : tie.Need-copy-fields-requires
 copy-fields-requires c κs =
@@ -56,7 +59,7 @@ put-copy-requires : tie.Need-put-copy-requires
 put-copy-requires c κs =
     let entry = entry-before-copy-fields (c .before) in (
       arm-numbers (entry .pre .0) (c .before .copy-fields .ensures),
-      arm-room (entry .args .file .now) (entry .args .numbers .now) (entry .args .base) (entry .args .v) (entry .args .h) (entry .args .at) (c .before .copy-fields .ensures) (entry .pre .1),
+      arm-room (entry .args .file .now) (entry .args .numbers .now) (entry .args .base) (entry .args .u) (entry .args .at) (c .before .copy-fields .ensures) (entry .pre .1),
     )
 
 difference-fields-requires : tie.Need-difference-fields-requires
@@ -69,7 +72,7 @@ put-difference-requires c κs =
     let entry = entry-before-difference-fields (c .before) in
     let numbers = arm-numbers (entry .pre .0) (c .before .difference-fields .ensures) in (
       (entry .pre .0 .baseBound, variables-bound (entry .pre .0 .here), numbers .0, numbers .1, numbers .2),
-      arm-room (entry .args .file .now) (entry .args .numbers .now) (entry .args .base) (entry .args .v) (entry .args .h) (entry .args .at) (c .before .difference-fields .ensures) (entry .pre .1),
+      arm-room (entry .args .file .now) (entry .args .numbers .now) (entry .args .base) (entry .args .u) (entry .args .at) (c .before .difference-fields .ensures) (entry .pre .1),
     )
 
 call-fields-requires : tie.Need-call-fields-requires
@@ -81,7 +84,7 @@ put-called-requires : tie.Need-put-called-requires
 put-called-requires c κs =
     let entry = entry-before-call-fields (c .before) in (
       (entry .pre .0, c .before .call-fields .ensures),
-      arm-room (entry .args .file .now) (entry .args .numbers .now) (entry .args .base) (entry .args .v) (entry .args .h) (entry .args .at) (c .before .call-fields .ensures) (entry .pre .1),
+      arm-room (entry .args .file .now) (entry .args .numbers .now) (entry .args .base) (entry .args .u) (entry .args .at) (c .before .call-fields .ensures) (entry .pre .1),
     )
 
 goto-fields-requires : tie.Need-goto-fields-requires
@@ -93,7 +96,7 @@ put-label-jump-requires : tie.Need-put-label-jump-requires
 put-label-jump-requires c κs =
     let entry = entry-before-goto-fields (c .before) in (
       (entry .pre .0 .baseBound, variables-bound (entry .pre .0 .here)),
-      arm-room (entry .args .file .now) (entry .args .numbers .now) (entry .args .base) (entry .args .v) (entry .args .h) (entry .args .at) (c .before .goto-fields .ensures) (entry .pre .1),
+      arm-room (entry .args .file .now) (entry .args .numbers .now) (entry .args .base) (entry .args .u) (entry .args .at) (c .before .goto-fields .ensures) (entry .pre .1),
     )
 
 return-fields-requires : tie.Need-return-fields-requires
@@ -105,7 +108,7 @@ put-return-requires : tie.Need-put-return-requires
 put-return-requires c κs =
     let entry = entry-before-return-fields (c .before) in (
       arm-numbers (entry .pre .0) (c .before .return-fields .ensures),
-      arm-room (entry .args .file .now) (entry .args .numbers .now) (entry .args .base) (entry .args .v) (entry .args .h) (entry .args .at) (c .before .return-fields .ensures) (entry .pre .1),
+      arm-room (entry .args .file .now) (entry .args .numbers .now) (entry .args .base) (entry .args .u) (entry .args .at) (c .before .return-fields .ensures) (entry .pre .1),
     )
 
 branch-fields-requires : tie.Need-branch-fields-requires
@@ -117,17 +120,30 @@ put-branch-requires : tie.Need-put-branch-requires
 put-branch-requires c κs =
     let entry = entry-before-branch-fields (c .before) in (
       (entry .pre .0 .baseBound, variables-bound (entry .pre .0 .here), arm-numbers (entry .pre .0) (c .before .branch-fields .ensures) .0, arm-numbers (entry .pre .0) (c .before .branch-fields .ensures) .1),
-      arm-room (entry .args .file .now) (entry .args .numbers .now) (entry .args .base) (entry .args .v) (entry .args .h) (entry .args .at) (c .before .branch-fields .ensures) (entry .pre .1),
+      arm-room (entry .args .file .now) (entry .args .numbers .now) (entry .args .base) (entry .args .u) (entry .args .at) (c .before .branch-fields .ensures) (entry .pre .1),
+    )
+
+raise-value-fields-requires : tie.Need-raise-value-fields-requires
+raise-value-fields-requires c κs =
+    let entry = c .before .before .before .before in
+    (sym (c .before .number-at .ensures) ∙ c .match .keys8, arm-numbers (entry .pre .0) refl)
+
+put-raise-value-requires : tie.Need-put-raise-value-requires
+put-raise-value-requires c κs =
+    let entry = entry-before-raise-value-fields (c .before) in (
+      (entry .pre .0 .baseBound, variables-bound (entry .pre .0 .here), arm-numbers (entry .pre .0) (c .before .raise-value-fields .ensures)),
+      arm-room (entry .args .file .now) (entry .args .numbers .now) (entry .args .base) (entry .args .u) (entry .args .at) (c .before .raise-value-fields .ensures) (entry .pre .1),
     )
 
 -- The last arm is the raise's.
 put-raise-requires : tie.Need-put-raise-requires
 put-raise-requires c κs =
     let at-match = c .before in
+    let rest = at-match .match .rest in
     let entry = entry-before-match-rest at-match in (
       (entry .pre .0 .baseBound, variables-bound (entry .pre .0 .here)),
-      arm-room (entry .args .file .now) (entry .args .numbers .now) (entry .args .base) (entry .args .v) (entry .args .h) (entry .args .at)
-          (arm-raise (entry .pre .0) (at-match .before .number-at .ensures) (at-match .match .rest .0 .0 .0 .0 .0 .0 .1) (at-match .match .rest .0 .0 .0 .0 .0 .1) (at-match .match .rest .0 .0 .0 .0 .1) (at-match .match .rest .0 .0 .0 .1) (at-match .match .rest .0 .0 .1) (at-match .match .rest .0 .1) (at-match .match .rest .1) .1) (entry .pre .1),
+      arm-room (entry .args .file .now) (entry .args .numbers .now) (entry .args .base) (entry .args .u) (entry .args .at)
+          (arm-raise (entry .pre .0) (at-match .before .number-at .ensures) (rest .0 .0 .0 .0 .0 .0 .0 .1) (rest .0 .0 .0 .0 .0 .0 .1) (rest .0 .0 .0 .0 .0 .1) (rest .0 .0 .0 .0 .1) (rest .0 .0 .0 .1) (rest .0 .0 .1) (rest .0 .1) (rest .1) .1) (entry .pre .1),
     )
 
 same-length : tie.Need-same-length
@@ -137,7 +153,7 @@ returns : tie.Need-returns
 returns c =
     let at-constant-bytes = c .before .before .before in
     let entry = entry-before-constant-bytes at-constant-bytes in
-    arm-wrote (entry .args .file .now) (entry .args .numbers .now) (entry .args .base) (entry .args .v) (entry .args .h) (entry .args .at) (at-constant-bytes .constant-bytes .ensures)
+    arm-wrote (entry .args .file .now) (entry .args .numbers .now) (entry .args .base) (entry .args .u) (entry .args .at) (at-constant-bytes .constant-bytes .ensures)
     (c .before .before .put-constant .ensures)
 
 same-length-2 : tie.Need-same-length-2
@@ -147,7 +163,7 @@ returns-2 : tie.Need-returns-2
 returns-2 c =
     let at-copy-fields = c .before .before .before .before in
     let entry = entry-before-copy-fields at-copy-fields in
-    arm-wrote (entry .args .file .now) (entry .args .numbers .now) (entry .args .base) (entry .args .v) (entry .args .h) (entry .args .at) (at-copy-fields .copy-fields .ensures)
+    arm-wrote (entry .args .file .now) (entry .args .numbers .now) (entry .args .base) (entry .args .u) (entry .args .at) (at-copy-fields .copy-fields .ensures)
     (c .before .before .put-copy .ensures)
 
 same-length-3 : tie.Need-same-length-3
@@ -157,7 +173,7 @@ returns-3 : tie.Need-returns-3
 returns-3 c =
     let at-difference-fields = c .before .before .before .before in
     let entry = entry-before-difference-fields at-difference-fields in
-    arm-wrote (entry .args .file .now) (entry .args .numbers .now) (entry .args .base) (entry .args .v) (entry .args .h) (entry .args .at) (at-difference-fields .difference-fields .ensures)
+    arm-wrote (entry .args .file .now) (entry .args .numbers .now) (entry .args .base) (entry .args .u) (entry .args .at) (at-difference-fields .difference-fields .ensures)
     (c .before .before .put-difference .ensures)
 
 same-length-4 : tie.Need-same-length-4
@@ -167,7 +183,7 @@ returns-4 : tie.Need-returns-4
 returns-4 c =
     let at-call-fields = c .before .before .before .before in
     let entry = entry-before-call-fields at-call-fields in
-    arm-wrote (entry .args .file .now) (entry .args .numbers .now) (entry .args .base) (entry .args .v) (entry .args .h) (entry .args .at) (at-call-fields .call-fields .ensures)
+    arm-wrote (entry .args .file .now) (entry .args .numbers .now) (entry .args .base) (entry .args .u) (entry .args .at) (at-call-fields .call-fields .ensures)
     (c .before .before .put-called .ensures)
 
 same-length-5 : tie.Need-same-length-5
@@ -177,7 +193,7 @@ returns-5 : tie.Need-returns-5
 returns-5 c =
     let at-goto-fields = c .before .before .before .before in
     let entry = entry-before-goto-fields at-goto-fields in
-    arm-wrote (entry .args .file .now) (entry .args .numbers .now) (entry .args .base) (entry .args .v) (entry .args .h) (entry .args .at) (at-goto-fields .goto-fields .ensures)
+    arm-wrote (entry .args .file .now) (entry .args .numbers .now) (entry .args .base) (entry .args .u) (entry .args .at) (at-goto-fields .goto-fields .ensures)
     (c .before .before .put-label-jump .ensures)
 
 same-length-6 : tie.Need-same-length-6
@@ -187,7 +203,7 @@ returns-6 : tie.Need-returns-6
 returns-6 c =
     let at-return-fields = c .before .before .before .before in
     let entry = entry-before-return-fields at-return-fields in
-    arm-wrote (entry .args .file .now) (entry .args .numbers .now) (entry .args .base) (entry .args .v) (entry .args .h) (entry .args .at) (at-return-fields .return-fields .ensures)
+    arm-wrote (entry .args .file .now) (entry .args .numbers .now) (entry .args .base) (entry .args .u) (entry .args .at) (at-return-fields .return-fields .ensures)
     (c .before .before .put-return .ensures)
 
 same-length-7 : tie.Need-same-length-7
@@ -197,7 +213,7 @@ returns-7 : tie.Need-returns-7
 returns-7 c =
     let at-branch-fields = c .before .before .before .before in
     let entry = entry-before-branch-fields at-branch-fields in
-    arm-wrote (entry .args .file .now) (entry .args .numbers .now) (entry .args .base) (entry .args .v) (entry .args .h) (entry .args .at) (at-branch-fields .branch-fields .ensures)
+    arm-wrote (entry .args .file .now) (entry .args .numbers .now) (entry .args .base) (entry .args .u) (entry .args .at) (at-branch-fields .branch-fields .ensures)
     (c .before .before .put-branch .ensures)
 
 same-length-8 : tie.Need-same-length-8
@@ -205,10 +221,21 @@ same-length-8 c = search needs
 
 returns-8 : tie.Need-returns-8
 returns-8 c =
+    let at-raise-value-fields = c .before .before .before .before in
+    let entry = entry-before-raise-value-fields at-raise-value-fields in
+    arm-wrote (entry .args .file .now) (entry .args .numbers .now) (entry .args .base) (entry .args .u) (entry .args .at) (at-raise-value-fields .raise-value-fields .ensures)
+    (c .before .before .put-raise-value .ensures)
+
+same-length-9 : tie.Need-same-length-9
+same-length-9 c = search needs
+
+returns-9 : tie.Need-returns-9
+returns-9 c =
     let at-match = c .before .before .before .before in
+    let rest = at-match .match .rest in
     let entry = entry-before-match-rest at-match in
-    arm-wrote (entry .args .file .now) (entry .args .numbers .now) (entry .args .base) (entry .args .v) (entry .args .h) (entry .args .at)
-    (arm-raise (entry .pre .0) (at-match .before .number-at .ensures) (at-match .match .rest .0 .0 .0 .0 .0 .0 .1) (at-match .match .rest .0 .0 .0 .0 .0 .1) (at-match .match .rest .0 .0 .0 .0 .1) (at-match .match .rest .0 .0 .0 .1) (at-match .match .rest .0 .0 .1) (at-match .match .rest .0 .1) (at-match .match .rest .1) .1)
+    arm-wrote (entry .args .file .now) (entry .args .numbers .now) (entry .args .base) (entry .args .u) (entry .args .at)
+    (arm-raise (entry .pre .0) (at-match .before .number-at .ensures) (rest .0 .0 .0 .0 .0 .0 .0 .1) (rest .0 .0 .0 .0 .0 .0 .1) (rest .0 .0 .0 .0 .0 .1) (rest .0 .0 .0 .0 .1) (rest .0 .0 .0 .1) (rest .0 .0 .1) (rest .0 .1) (rest .1) .1)
     (c .before .before .put-raise .ensures)
 
 pub put-operation-spec : {M : Type 1} → statement M
@@ -230,6 +257,8 @@ put-operation-spec =
     put-return-requires
     branch-fields-requires
     put-branch-requires
+    raise-value-fields-requires
+    put-raise-value-requires
     put-raise-requires
     same-length
     returns
@@ -246,4 +275,6 @@ put-operation-spec =
     same-length-7
     returns-7
     same-length-8
-    returns-8)
+    returns-8
+    same-length-9
+    returns-9)

@@ -1,9 +1,12 @@
 -- `translator::parts::put_file` meets its contract.
-use Rattle.translator.specs.FileLaws.{mark-room, version-room, targets-room, functions-room, file-wrote}
+use Rattle.translator.specs.FileLaws.{version-kept, mark-room, version-room, targets-room, functions-room, file-wrote}
 use native.Mathlib.Omega.{arith}
 use borrow.Author.Needs.{needs}
 use Rattle.translator.proofs.parts.put_file.Statement.{statement}
 use Rattle.translator.proofs.parts.put_file.Tie as tie
+
+version-of-requires : tie.Need-version-of-requires
+version-of-requires c κs = search needs
 
 slice-aggregate-fill-numbers : tie.Need-slice-aggregate-fill-numbers
 slice-aggregate-fill-numbers c = search needs
@@ -23,24 +26,30 @@ element-copy-out-put-three-3 c = search needs
 put-three-requires : tie.Need-put-three-requires
 put-three-requires c κs =
     let at-fill-numbers = c .before .before .before .before .before .before in
-    let entry = at-fill-numbers .before .before .before .before in
-    mark-room (entry .args .file .now) (at-fill-numbers .fill-numbers .ensures .0) (entry .pre .1)
+    let at-version-of = at-fill-numbers .before .before in
+    let entry = at-version-of .before .before .before in
+    let version-is = version-kept (entry .pre .0) (at-version-of .version-of .ensures) in
+    mark-room (entry .args .file .now) version-is (at-fill-numbers .fill-numbers .ensures .0) (entry .pre .1)
 
 put-two-requires : tie.Need-put-two-requires
 put-two-requires c κs =
     let at-put-three = c .before .before .before in
     let at-fill-numbers = at-put-three .before .before .before .before .before .before .before in
-    let entry = at-fill-numbers .before .before .before .before in
-    version-room (entry .args .file .now) (at-fill-numbers .fill-numbers .ensures .0) (entry .pre .1) (at-put-three .put-three .ensures)
+    let at-version-of = at-fill-numbers .before .before in
+    let entry = at-version-of .before .before .before in
+    let version-is = version-kept (entry .pre .0) (at-version-of .version-of .ensures) in
+    version-room (entry .args .file .now) version-is (at-fill-numbers .fill-numbers .ensures .0) (entry .pre .1) (at-put-three .put-three .ensures)
 
 put-pair-requires : tie.Need-put-pair-requires
 put-pair-requires c κs =
     let at-put-two = c .before .before .before in
     let at-put-three = at-put-two .before .before .before .before in
     let at-fill-numbers = at-put-three .before .before .before .before .before .before .before in
-    let entry = at-fill-numbers .before .before .before .before in (
+    let at-version-of = at-fill-numbers .before .before in
+    let entry = at-version-of .before .before .before in
+    let version-is = version-kept (entry .pre .0) (at-version-of .version-of .ensures) in (
       omega (arith, at-fill-numbers .fill-numbers .ensures .1),
-      targets-room (entry .args .file .now) (at-fill-numbers .fill-numbers .ensures .0) (entry .pre .1) (at-put-three .put-three .ensures) (at-put-two .put-two .ensures),
+      targets-room (entry .args .file .now) version-is (at-fill-numbers .fill-numbers .ensures .0) (entry .pre .1) (at-put-three .put-three .ensures) (at-put-two .put-two .ensures),
     )
 
 put-functions-requires : tie.Need-put-functions-requires
@@ -49,9 +58,11 @@ put-functions-requires c κs =
     let at-put-two = at-put-pair .before .before .before .before in
     let at-put-three = at-put-two .before .before .before .before in
     let at-fill-numbers = at-put-three .before .before .before .before .before .before .before in
-    let entry = at-fill-numbers .before .before .before .before in (
+    let at-version-of = at-fill-numbers .before .before in
+    let entry = at-version-of .before .before .before in
+    let version-is = version-kept (entry .pre .0) (at-version-of .version-of .ensures) in (
       (entry .pre .0, at-fill-numbers .fill-numbers .ensures .2),
-      functions-room (entry .args .file .now) (at-fill-numbers .fill-numbers .ensures .0) (entry .pre .1) (at-put-three .put-three .ensures) (at-put-two .put-two .ensures) (at-put-pair .put-pair .ensures),
+      functions-room (entry .args .file .now) version-is (at-fill-numbers .fill-numbers .ensures .0) (entry .pre .1) (at-put-three .put-three .ensures) (at-put-two .put-two .ensures) (at-put-pair .put-pair .ensures),
     )
 
 same-length : tie.Need-same-length
@@ -63,13 +74,16 @@ returns c =
     let at-put-two = at-put-pair .before .before .before .before in
     let at-put-three = at-put-two .before .before .before .before in
     let at-fill-numbers = at-put-three .before .before .before .before .before .before .before in
-    let entry = at-fill-numbers .before .before .before .before in
-    file-wrote (entry .args .file .now) (at-fill-numbers .fill-numbers .ensures .0) (entry .pre .1) (at-put-three .put-three .ensures) (at-put-two .put-two .ensures) (at-put-pair .put-pair .ensures) (c .before .before .put-functions .ensures)
+    let at-version-of = at-fill-numbers .before .before in
+    let entry = at-version-of .before .before .before in
+    let version-is = version-kept (entry .pre .0) (at-version-of .version-of .ensures) in
+    file-wrote (entry .args .file .now) version-is (at-fill-numbers .fill-numbers .ensures .0) (entry .pre .1) (at-put-three .put-three .ensures) (at-put-two .put-two .ensures) (at-put-pair .put-pair .ensures) (c .before .before .put-functions .ensures)
 
 pub put-file-spec : {M : Type 1} → statement M
 put-file-spec =
     tie.close
     (tie.spec
+    version-of-requires
     slice-aggregate-fill-numbers
     fill-numbers-requires
     element-copy-out-put-three

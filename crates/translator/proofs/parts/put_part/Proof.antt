@@ -30,7 +30,7 @@ add-size c = search needs
 put-one-requires : tie.Need-put-one-requires
 put-one-requires c κs =
     let entry = c .before .before .before .before in
-    part-room (entry .args .file .now) (entry .args .base) (entry .args .p) (entry .args .n) (entry .args .v) (entry .args .h) (entry .args .at) (c .before .block-size .ensures)
+    part-room (entry .args .file .now) (entry .args .base) (entry .args .p) (entry .args .n) (entry .args .u) (entry .args .at) (c .before .block-size .ensures)
     (entry .pre .1)
 
 put-pair-requires : tie.Need-put-pair-requires
@@ -38,9 +38,9 @@ put-pair-requires c κs =
     let at-put-one = c .before .before .before in
     let at-block-size = at-put-one .before .before in
     let entry = entry-before-block-size at-block-size in (
-      part-small (entry .args .file .now) (entry .args .base) (entry .args .p) (entry .args .n) (entry .args .v) (entry .args .h) (entry .args .at)
+      part-small (entry .args .file .now) (entry .args .base) (entry .args .p) (entry .args .n) (entry .args .u) (entry .args .at)
           (at-block-size .block-size .ensures) (entry .pre .1),
-      part-pair-room (entry .args .file .now) (entry .args .base) (entry .args .p) (entry .args .n) (entry .args .v) (entry .args .h) (entry .args .at)
+      part-pair-room (entry .args .file .now) (entry .args .base) (entry .args .p) (entry .args .n) (entry .args .u) (entry .args .at)
           (at-block-size .block-size .ensures) (entry .pre .1) (at-put-one .put-one .ensures),
     )
 
@@ -51,7 +51,7 @@ put-zeros-requires c κs =
     let at-block-size = at-put-one .before .before in
     let entry = entry-before-block-size at-block-size in (
       omega (arith, entry .pre .0 .1, entry .pre .0 .2),
-      part-zeros-room (entry .args .file .now) (entry .args .base) (entry .args .p) (entry .args .n) (entry .args .v) (entry .args .h) (entry .args .at)
+      part-zeros-room (entry .args .file .now) (entry .args .base) (entry .args .p) (entry .args .n) (entry .args .u) (entry .args .at)
           (at-block-size .block-size .ensures) (entry .pre .1) (at-put-one .put-one .ensures) (at-put-pair .put-pair .ensures),
     )
 
@@ -63,7 +63,7 @@ put-block-requires c κs =
     let at-block-size = at-put-one .before .before in
     let entry = entry-before-block-size at-block-size in (
       entry .pre .0 .0,
-      part-block-room (entry .args .file .now) (entry .args .base) (entry .args .p) (entry .args .n) (entry .args .v) (entry .args .h) (entry .args .at)
+      part-block-room (entry .args .file .now) (entry .args .base) (entry .args .p) (entry .args .n) (entry .args .u) (entry .args .at)
           (at-block-size .block-size .ensures) (entry .pre .1) (at-put-one .put-one .ensures) (at-put-pair .put-pair .ensures) (at-put-zeros .put-zeros .ensures),
     )
 
@@ -77,7 +77,7 @@ returns c =
     let at-put-one = put-one-before-put-pair at-put-pair in
     let at-block-size = at-put-one .before .before in
     let entry = entry-before-block-size at-block-size in
-    part-wrote (entry .args .file .now) (entry .args .base) (entry .args .p) (entry .args .n) (entry .args .v) (entry .args .h) (entry .args .at)
+    part-wrote (entry .args .file .now) (entry .args .base) (entry .args .p) (entry .args .n) (entry .args .u) (entry .args .at)
     (at-block-size .block-size .ensures) (entry .pre .1) (at-put-one .put-one .ensures) (at-put-pair .put-pair .ensures) (at-put-zeros .put-zeros .ensures)
     (c .before .before .put-block .ensures)
 

@@ -7,17 +7,17 @@ use Rattle.translator_bytes.proofs.jumps.put_call.Tie as tie
 
 put-plain-call-requires : tie.Need-put-plain-call-requires
 put-plain-call-requires c κs =
-    let entry = c .before .before .before .before in (
+    let entry = c .before .before .before .before .before in (
       (entry .pre .0 .1, entry .pre .0 .2, entry .pre .0 .3, entry .pre .0 .4, entry .pre .0 .5),
-      room-as (plain-as (entry .args .base) (entry .args .v) (entry .args .h) (entry .args .x .0) (entry .args .g) (entry .args .n)
+      room-as (plain-as (entry .args .base) (entry .args .u) (entry .args .x .0) (entry .args .g) (entry .args .n)
           (argumentsAt (entry .args .file .now) (entry .args .at) (entry .args .n)) (c .before .if1 .taken)) (entry .pre .1),
     )
 
 put-guarded-call-requires : tie.Need-put-guarded-call-requires
 put-guarded-call-requires c κs =
-    let entry = c .before .before .before .before in (
+    let entry = c .before .before .before .before .before in (
       entry .pre .0,
-      room-as (guarded-as (entry .args .base) (entry .args .v) (entry .args .h) (entry .args .x .0) (entry .args .g) (entry .args .n) (argumentsAt (entry .args .file .now) (entry .args .at) (entry .args .n)) (c .before .if1 .left)) (entry .pre .1),
+      room-as (guarded-as (entry .args .base) (entry .args .u) (entry .args .x .0) (entry .args .g) (entry .args .n) (argumentsAt (entry .args .file .now) (entry .args .at) (entry .args .n)) (c .before .if1 .left)) (entry .pre .1),
     )
 
 same-length : tie.Need-same-length
@@ -26,9 +26,9 @@ same-length c = search needs
 returns : tie.Need-returns
 returns c =
     let at-if1 = c .before .before .before .before in
-    let entry = at-if1 .before .before .before in
+    let entry = at-if1 .before .before .before .before in
     wrote-as
-    (plain-as (entry .args .base) (entry .args .v) (entry .args .h) (entry .args .x .0) (entry .args .g) (entry .args .n) (argumentsAt (entry .args .file .now) (entry .args .at) (entry .args .n)) (at-if1 .if1 .taken))
+    (plain-as (entry .args .base) (entry .args .u) (entry .args .x .0) (entry .args .g) (entry .args .n) (argumentsAt (entry .args .file .now) (entry .args .at) (entry .args .n)) (at-if1 .if1 .taken))
     (c .before .before .put-plain-call .ensures)
 
 same-length-2 : tie.Need-same-length-2
@@ -37,9 +37,9 @@ same-length-2 c = search needs
 returns-2 : tie.Need-returns-2
 returns-2 c =
     let at-if1 = c .before .before .before .before in
-    let entry = at-if1 .before .before .before in
+    let entry = at-if1 .before .before .before .before in
     wrote-as
-    (guarded-as (entry .args .base) (entry .args .v) (entry .args .h) (entry .args .x .0) (entry .args .g) (entry .args .n) (argumentsAt (entry .args .file .now) (entry .args .at) (entry .args .n)) (at-if1 .if1 .left))
+    (guarded-as (entry .args .base) (entry .args .u) (entry .args .x .0) (entry .args .g) (entry .args .n) (argumentsAt (entry .args .file .now) (entry .args .at) (entry .args .n)) (at-if1 .if1 .left))
     (c .before .before .put-guarded-call .ensures)
 
 pub put-call-spec : {M : Type 1} → statement M

@@ -31,7 +31,7 @@ put-four-requires c κs =
     let at-slot-of2 = at-slot-of3 .before in
     let at-slot-of = at-slot-of2 .before in
     let entry = at-slot-of .before .before in
-    difference-room (entry .args .base) (entry .args .v) (entry .args .h) (entry .args .x .0) (entry .args .y .0) (entry .args .z .0)
+    difference-room (entry .args .base) (entry .args .u) (entry .args .x .0) (entry .args .y .0) (entry .args .z .0)
     (at-slot-of .slot-of .ensures) (at-slot-of2 .slot-of2 .ensures) (at-slot-of3 .slot-of3 .ensures) (at-raise-size .raise-size .ensures .0) (entry .pre .1)
 
 put-pair-requires : tie.Need-put-pair-requires
@@ -43,7 +43,7 @@ put-pair-requires c κs =
     let at-slot-of = at-slot-of2 .before in
     let entry = at-slot-of .before .before in (
       omega (arith, at-raise-size .raise-size .ensures .1),
-      difference-pair-room (entry .args .base) (entry .args .v) (entry .args .h) (entry .args .x .0) (entry .args .y .0) (entry .args .z .0)
+      difference-pair-room (entry .args .base) (entry .args .u) (entry .args .x .0) (entry .args .y .0) (entry .args .z .0)
           (at-slot-of .slot-of .ensures) (at-slot-of2 .slot-of2 .ensures) (at-slot-of3 .slot-of3 .ensures) (at-raise-size .raise-size .ensures .0) (entry .pre .1) (at-put-four .put-four .ensures),
     )
 
@@ -57,7 +57,7 @@ put-raise-requires c κs =
     let at-slot-of = at-slot-of2 .before in
     let entry = at-slot-of .before .before in (
       (entry .pre .0 .0, entry .pre .0 .1),
-      difference-raise-room (entry .args .base) (entry .args .v) (entry .args .h) (entry .args .x .0) (entry .args .y .0) (entry .args .z .0)
+      difference-raise-room (entry .args .base) (entry .args .u) (entry .args .x .0) (entry .args .y .0) (entry .args .z .0)
           (at-slot-of .slot-of .ensures) (at-slot-of2 .slot-of2 .ensures) (at-slot-of3 .slot-of3 .ensures) (at-raise-size .raise-size .ensures .0) (entry .pre .1) (at-put-four .put-four .ensures) (at-put-pair .put-pair .ensures),
     )
 
@@ -74,7 +74,7 @@ returns c =
     let at-slot-of2 = at-slot-of3 .before in
     let at-slot-of = at-slot-of2 .before in
     let entry = at-slot-of .before .before in
-    difference-wrote (entry .args .base) (entry .args .v) (entry .args .h) (entry .args .x .0) (entry .args .y .0) (entry .args .z .0)
+    difference-wrote (entry .args .base) (entry .args .u) (entry .args .x .0) (entry .args .y .0) (entry .args .z .0)
     (at-slot-of .slot-of .ensures) (at-slot-of2 .slot-of2 .ensures) (at-slot-of3 .slot-of3 .ensures) (at-raise-size .raise-size .ensures .0) (entry .pre .1)
     (at-put-four .put-four .ensures) (at-put-pair .put-pair .ensures) (at-put-raise .put-raise .ensures)
 

@@ -10,8 +10,8 @@ use Rattle.translator_bytes.proofs.jumps.put_guarded_call.Tie as tie
 abbrev entry-before-jump-size : tie.After-jump-size → tie.Start
 entry-before-jump-size c = c .before .before .before .before
 
-abbrev put-four-before-put-pair : tie.After-put-pair → tie.After-put-four
-put-four-before-put-pair c = c .before .before .before .before
+abbrev put-guarded-head-before-put-pair : tie.After-put-pair → tie.After-put-guarded-head
+put-guarded-head-before-put-pair c = c .before .before .before .before
 
 abbrev put-pair-before-put-call-jump : tie.After-put-call-jump → tie.After-put-pair
 put-pair-before-put-call-jump c = c .before .before .before .before
@@ -31,54 +31,57 @@ add-t c = search needs
 jump-size-requires : tie.Need-jump-size-requires
 jump-size-requires c κs = search needs
 
+cast-jump-size : tie.Need-cast-jump-size
+cast-jump-size c = search needs
+
 jump-size-requires-2 : tie.Need-jump-size-requires-2
 jump-size-requires-2 c κs = search needs
 
-put-four-requires : tie.Need-put-four-requires
-put-four-requires c κs =
+put-guarded-head-requires : tie.Need-put-guarded-head-requires
+put-guarded-head-requires c κs =
     let at-jump-size2 = c .before in
     let at-jump-size = at-jump-size2 .before in
     let entry = entry-before-jump-size at-jump-size in
-    guarded-room (entry .args .base) (entry .args .v) (entry .args .h) (entry .args .x .0) (entry .args .g) (entry .args .n)
+    guarded-room (entry .args .base) (entry .args .u) (entry .args .x .0) (entry .args .g) (entry .args .n)
     (argumentsAt (entry .args .file .now) (entry .args .at) (entry .args .n)) (at-jump-size .before .slot-of .ensures) (at-jump-size .jump-size .ensures) (at-jump-size2 .jump-size2 .ensures) (entry .pre .1)
 
 put-pair-requires : tie.Need-put-pair-requires
 put-pair-requires c κs =
-    let at-put-four = c .before .before .before in
-    let at-jump-size2 = at-put-four .before .before in
+    let at-put-guarded-head = c .before .before .before in
+    let at-jump-size2 = at-put-guarded-head .before .before in
     let at-jump-size = at-jump-size2 .before in
     let entry = entry-before-jump-size at-jump-size in (
       omega (arith, at-jump-size .jump-size .ensures, entry .pre .0 .3),
-      guarded-pair-room (entry .args .base) (entry .args .v) (entry .args .h) (entry .args .x .0) (entry .args .g)
+      guarded-pair-room (entry .args .base) (entry .args .u) (entry .args .x .0) (entry .args .g)
           (entry .args .n) (argumentsAt (entry .args .file .now) (entry .args .at) (entry .args .n)) (at-jump-size .before .slot-of .ensures) (at-jump-size .jump-size .ensures) (at-jump-size2 .jump-size2 .ensures)
-          (entry .pre .1) (at-put-four .put-four .ensures),
+          (entry .pre .1) (at-put-guarded-head .put-guarded-head .ensures),
     )
 
 put-call-jump-requires : tie.Need-put-call-jump-requires
 put-call-jump-requires c κs =
     let at-put-pair = c .before .before .before in
-    let at-put-four = put-four-before-put-pair at-put-pair in
-    let at-jump-size2 = at-put-four .before .before in
+    let at-put-guarded-head = put-guarded-head-before-put-pair at-put-pair in
+    let at-jump-size2 = at-put-guarded-head .before .before in
     let at-jump-size = at-jump-size2 .before in
     let entry = entry-before-jump-size at-jump-size in (
       (entry .pre .0 .4, entry .pre .0 .5),
-      guarded-jump-room (entry .args .base) (entry .args .v) (entry .args .h) (entry .args .x .0) (entry .args .g) (entry .args .n)
+      guarded-jump-room (entry .args .base) (entry .args .u) (entry .args .x .0) (entry .args .g) (entry .args .n)
           (argumentsAt (entry .args .file .now) (entry .args .at) (entry .args .n)) (at-jump-size .before .slot-of .ensures) (at-jump-size .jump-size .ensures) (at-jump-size2 .jump-size2 .ensures) (entry .pre .1)
-          (at-put-four .put-four .ensures) (at-put-pair .put-pair .ensures),
+          (at-put-guarded-head .put-guarded-head .ensures) (at-put-pair .put-pair .ensures),
     )
 
 put-pair-requires-2 : tie.Need-put-pair-requires-2
 put-pair-requires-2 c κs =
     let at-put-call-jump = c .before .before .before in
     let at-put-pair = put-pair-before-put-call-jump at-put-call-jump in
-    let at-put-four = put-four-before-put-pair at-put-pair in
-    let at-jump-size2 = at-put-four .before .before in
+    let at-put-guarded-head = put-guarded-head-before-put-pair at-put-pair in
+    let at-jump-size2 = at-put-guarded-head .before .before in
     let at-jump-size = at-jump-size2 .before in
     let entry = entry-before-jump-size at-jump-size in (
       omega (arith, at-jump-size2 .jump-size2 .ensures, entry .pre .0 .1),
-      guarded-length-room (entry .args .base) (entry .args .v) (entry .args .h) (entry .args .x .0) (entry .args .g) (entry .args .n)
+      guarded-length-room (entry .args .base) (entry .args .u) (entry .args .x .0) (entry .args .g) (entry .args .n)
           (argumentsAt (entry .args .file .now) (entry .args .at) (entry .args .n)) (at-jump-size .before .slot-of .ensures) (at-jump-size .jump-size .ensures) (at-jump-size2 .jump-size2 .ensures) (entry .pre .1)
-          (at-put-four .put-four .ensures) (at-put-pair .put-pair .ensures) (at-put-call-jump .put-call-jump .ensures),
+          (at-put-guarded-head .put-guarded-head .ensures) (at-put-pair .put-pair .ensures) (at-put-call-jump .put-call-jump .ensures),
     )
 
 put-label-jump-requires : tie.Need-put-label-jump-requires
@@ -86,14 +89,14 @@ put-label-jump-requires c κs =
     let at-put-pair2 = c .before .before .before in
     let at-put-call-jump = put-call-jump-before-put-pair2 at-put-pair2 in
     let at-put-pair = put-pair-before-put-call-jump at-put-call-jump in
-    let at-put-four = put-four-before-put-pair at-put-pair in
-    let at-jump-size2 = at-put-four .before .before in
+    let at-put-guarded-head = put-guarded-head-before-put-pair at-put-pair in
+    let at-jump-size2 = at-put-guarded-head .before .before in
     let at-jump-size = at-jump-size2 .before in
     let entry = entry-before-jump-size at-jump-size in (
       (entry .pre .0 .0, entry .pre .0 .1),
-      guarded-label-room (entry .args .base) (entry .args .v) (entry .args .h) (entry .args .x .0) (entry .args .g) (entry .args .n)
+      guarded-label-room (entry .args .base) (entry .args .u) (entry .args .x .0) (entry .args .g) (entry .args .n)
           (argumentsAt (entry .args .file .now) (entry .args .at) (entry .args .n)) (at-jump-size .before .slot-of .ensures) (at-jump-size .jump-size .ensures) (at-jump-size2 .jump-size2 .ensures) (entry .pre .1)
-          (at-put-four .put-four .ensures) (at-put-pair .put-pair .ensures) (at-put-call-jump .put-call-jump .ensures) (at-put-pair2 .put-pair2 .ensures),
+          (at-put-guarded-head .put-guarded-head .ensures) (at-put-pair .put-pair .ensures) (at-put-call-jump .put-call-jump .ensures) (at-put-pair2 .put-pair2 .ensures),
     )
 
 same-length : tie.Need-same-length
@@ -104,13 +107,13 @@ returns c =
     let at-put-pair2 = c .before .before .before .before .before .before in
     let at-put-call-jump = put-call-jump-before-put-pair2 at-put-pair2 in
     let at-put-pair = put-pair-before-put-call-jump at-put-call-jump in
-    let at-put-four = put-four-before-put-pair at-put-pair in
-    let at-jump-size2 = at-put-four .before .before in
+    let at-put-guarded-head = put-guarded-head-before-put-pair at-put-pair in
+    let at-jump-size2 = at-put-guarded-head .before .before in
     let at-jump-size = at-jump-size2 .before in
     let entry = entry-before-jump-size at-jump-size in
-    guarded-wrote (entry .args .base) (entry .args .v) (entry .args .h) (entry .args .x .0) (entry .args .g) (entry .args .n)
+    guarded-wrote (entry .args .base) (entry .args .u) (entry .args .x .0) (entry .args .g) (entry .args .n)
     (argumentsAt (entry .args .file .now) (entry .args .at) (entry .args .n)) (at-jump-size .before .slot-of .ensures) (at-jump-size .jump-size .ensures) (at-jump-size2 .jump-size2 .ensures) (entry .pre .1)
-    (at-put-four .put-four .ensures) (at-put-pair .put-pair .ensures) (at-put-call-jump .put-call-jump .ensures) (at-put-pair2 .put-pair2 .ensures)
+    (at-put-guarded-head .put-guarded-head .ensures) (at-put-pair .put-pair .ensures) (at-put-call-jump .put-call-jump .ensures) (at-put-pair2 .put-pair2 .ensures)
     (c .before .before .put-label-jump .ensures)
 
 pub put-guarded-call-spec : {M : Type 1} → statement M
@@ -121,8 +124,9 @@ put-guarded-call-spec =
     slot-of-requires
     add-t
     jump-size-requires
+    cast-jump-size
     jump-size-requires-2
-    put-four-requires
+    put-guarded-head-requires
     put-pair-requires
     put-call-jump-requires
     put-pair-requires-2

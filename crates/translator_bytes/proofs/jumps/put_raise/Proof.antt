@@ -1,38 +1,34 @@
 -- `translator_bytes::jumps::put_raise` meets its contract.
-use Rattle.translator_bytes.specs.JumpLaws.{uncaught-as, caught-as, room-as, wrote-as}
+use Rattle.translator_bytes.specs.WriteLaws.{room-front, room-back, wrote-both}
+use Rattle.translator_bytes.specs.Bytes.{ifAny, raiseEnd, raiseBytes}
+use mathlib.Core.List.{[], _∷_, _++_}
 use borrow.Author.Needs.{needs}
 use Rattle.translator_bytes.proofs.jumps.put_raise.Statement.{statement}
 use Rattle.translator_bytes.proofs.jumps.put_raise.Tie as tie
 
-put-two-requires : tie.Need-put-two-requires
-put-two-requires c κs =
-    let entry = c .before .before .before in
-    room-as (uncaught-as (entry .args .base) (entry .args .v) (entry .args .h) (c .before .if1 .taken)) (entry .pre .1)
+put-zero-if-any-requires : tie.Need-put-zero-if-any-requires
+unfolding raiseBytes
+put-zero-if-any-requires c κs =
+    let entry = c .before .before in
+    room-front (ifAny (entry .args .u .bound) ((1 ∷ entry .args .u .bound ∷ []) ++ (0 ∷ 0 ∷ 0 ∷ 0 ∷ []))) (raiseEnd (entry .args .base) (entry .args .u)) (entry .pre .1)
 
-put-label-jump-requires : tie.Need-put-label-jump-requires
-put-label-jump-requires c κs =
-    let entry = c .before .before .before in
-    (entry .pre .0, room-as (caught-as (entry .args .base) (entry .args .v) (entry .args .h) (c .before .if1 .left)) (entry .pre .1))
+put-raise-end-requires : tie.Need-put-raise-end-requires
+unfolding raiseBytes
+put-raise-end-requires c κs =
+    let at-put-zero-if-any = c .before .before .before in
+    let entry = at-put-zero-if-any .before .before .before in
+    (entry .pre .0, room-back (ifAny (entry .args .u .bound) ((1 ∷ entry .args .u .bound ∷ []) ++ (0 ∷ 0 ∷ 0 ∷ 0 ∷ []))) (raiseEnd (entry .args .base) (entry .args .u)) (entry .pre .1) (at-put-zero-if-any .put-zero-if-any .ensures))
 
 same-length : tie.Need-same-length
 same-length c = search needs
 
 returns : tie.Need-returns
+unfolding raiseBytes
 returns c =
-    let at-if1 = c .before .before .before .before in
-    let entry = at-if1 .before .before in
-    wrote-as (uncaught-as (entry .args .base) (entry .args .v) (entry .args .h) (at-if1 .if1 .taken)) (c .before .before .put-two .ensures)
-
-same-length-2 : tie.Need-same-length-2
-same-length-2 c = search needs
-
-returns-2 : tie.Need-returns-2
-returns-2 c =
-    let at-if1 = c .before .before .before .before in
-    let entry = at-if1 .before .before in
-    wrote-as (caught-as (entry .args .base) (entry .args .v) (entry .args .h) (at-if1 .if1 .left)) (c .before .before .put-label-jump .ensures)
+    let at-put-zero-if-any = c .before .before .before .before .before .before in
+    let entry = at-put-zero-if-any .before .before .before in
+    wrote-both (ifAny (entry .args .u .bound) ((1 ∷ entry .args .u .bound ∷ []) ++ (0 ∷ 0 ∷ 0 ∷ 0 ∷ []))) (raiseEnd (entry .args .base) (entry .args .u)) (entry .pre .1) (at-put-zero-if-any .put-zero-if-any .ensures) (c .before .before .put-raise-end .ensures)
 
 pub put-raise-spec : {M : Type 1} → statement M
 put-raise-spec =
-    tie.close
-    (tie.spec put-two-requires put-label-jump-requires same-length returns same-length-2 returns-2)
+    tie.close (tie.spec put-zero-if-any-requires put-raise-end-requires same-length returns)
