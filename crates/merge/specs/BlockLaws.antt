@@ -17,7 +17,7 @@ use Rattle.memory.specs.LayLaws.{length-part}
 use Rattle.procedure_operations.specs.declared.operation.Operation.{Operation}
 use Rattle.procedure_operations.specs.declared.operation.Operation.the-variants.{Refused}
 use Rattle.procedure_operations.specs.Operation.{operationAt, argumentsAt}
-use Rattle.procedure_operations.specs.ViewLaws.{View, isConstant, isCopy, isDifference, isCall, isGoto, isReturn, isBranch, isRaise, isRefused, view}
+use Rattle.procedure_operations.specs.ViewLaws.{View, isConstant, isCopy, isDifference, isCall, isGoto, isReturn, isBranch, isRaise, isRaiseValue, isRefused, view}
 use Rattle.procedure_layout.specs.declared.layout.After.{After}
 use Rattle.procedure_layout.specs.declared.layout.After.the-variants.{Onward, Ended, Halted}
 use Rattle.procedure_layout.specs.Rest.{restFrom, restAt}
@@ -79,6 +79,7 @@ module _ (s : List ℕ) (at n : ℕ) where
   split (isBranch e h) r w f =
       sym (stretch-is s at (at + 5) (7 ∷ getD s (at + 1) 0 ∷ getD s (at + 2) 0 ∷ getD s (at + 3) 0 ∷ getD s (at + 4) 0 ∷ []) r w (omega arith))
   split (isRaise e h) r w f = sym (stretch-is s at (at + 1) (8 ∷ []) r w (omega arith))
+  split (isRaiseValue e h v) r w f = sym (stretch-is s at (at + 2) (9 ∷ getD s (at + 1) 0 ∷ []) r w (omega arith))
   split (isRefused x) r w f = absurd (f x refl)
 
 -- ── Where an operation ends, and the function that a call names ─────────────────────────────────
@@ -93,6 +94,7 @@ module _ (s : List ℕ) (at : ℕ) where
   refused-after r (isReturn e h) q f = impossible (cc)
   refused-after r (isBranch e h) q f = impossible (cc)
   refused-after r (isRaise e h) q f = impossible (cc)
+  refused-after r (isRaiseValue e h v) q f = impossible (cc)
   refused-after r (isRefused x) q f = f x refl
 
 module _ (s : List ℕ) (at m : ℕ) where
@@ -105,6 +107,7 @@ module _ (s : List ℕ) (at m : ℕ) where
   ends-inside (isReturn e h) q = let k : at + 2 ≡ m = cc in (omega arith, omega arith)
   ends-inside (isBranch e h) q = let k : at + 5 ≡ m = cc in (omega arith, omega arith)
   ends-inside (isRaise e h) q = let k : at + 1 ≡ m = cc in (omega arith, omega arith)
+  ends-inside (isRaiseValue e h v) q = let k : at + 2 ≡ m = cc in (omega arith, omega arith)
   ends-inside (isRefused r) q = impossible (cc)
 
   module _ (P : Program) (v k : ℕ) where
@@ -118,6 +121,7 @@ module _ (s : List ℕ) (at m : ℕ) where
     callee-fits (isReturn e h) q c w = absurd (omega arith)
     callee-fits (isBranch e h) q c w = absurd (omega arith)
     callee-fits (isRaise e h) q c w = absurd (omega arith)
+    callee-fits (isRaiseValue e h v) q c w = absurd (omega arith)
     callee-fits (isRefused r) q c w = impossible (cc)
 
 module _ {s : List ℕ} {at : ℕ} (H : OperationStands s at) where

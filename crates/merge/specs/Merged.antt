@@ -2,11 +2,12 @@
 use Prim.Native.Nat.{ℕ}
 use mathlib.Core.Path.{_≡_}
 use mathlib.Core.List.{List}
-use lib.Dec.{leb}
+use lib.Dec.{leb, eqb}
 use lib.ListN.{length}
 use Rattle.semantics.specs.Merge.{merged}
-use Rattle.parsing.specs.Refusals.{noRoom, mergedTooLarge}
+use Rattle.parsing.specs.Refusals.{wrongVersion, noRoom, mergedTooLarge}
 use Rattle.parsing.specs.Parser.{Verdict, accepted, orElse, refusedUnless}
+use Rattle.parsing.specs.Fields.{versionOf}
 use Rattle.parsing.specs.Bytes.{Bytes}
 use Rattle.runs.specs.Tells.{Tells, refuses, tells, tellsBy, leaves}
 use Rattle.procedure_layout.specs.Layout.{fileLimit, maxFunctions}
@@ -24,6 +25,10 @@ abbrev pub toldBy : Merged → Tells ℕ
 toldBy (Written n) = tells n
 toldBy (Refused r) = refuses (r .number) (r .place)
 
+-- "Merging two versions is refused 2 at place 3 of the second, just before 22" (document 02, Slip 7).
+unfoldable pub versionVerdict : List ℕ → List ℕ → Verdict
+versionVerdict s t = refusedUnless (eqb (versionOf s) (versionOf t)) wrongVersion 3
+
 -- "22 when the merged file would have over 32 functions or 32,768 bytes, at 0 ..; then 16 when the lent output is too short."
 unfoldable pub sizeVerdict : (functions bytes room : ℕ) → Verdict
 sizeVerdict functions bytes room =
@@ -32,7 +37,7 @@ sizeVerdict functions bytes room =
 
 -- Of two accepted files.
 unfoldable pub filesVerdict : List ℕ → List ℕ → ℕ → Verdict
-filesVerdict s t room = sizeVerdict (length (merged (programOf s) (programOf t))) (length (mergedOf s t)) room
+filesVerdict s t room = orElse (versionVerdict s t) (sizeVerdict (length (merged (programOf s) (programOf t))) (length (mergedOf s t)) room)
 
 -- ".. after both files' checks, the first file's before the second's".
 unfoldable pub mergeVerdict : List ℕ → List ℕ → ℕ → Verdict

@@ -7,13 +7,13 @@ use lib.ListN.{length, getD, take, drop}
 use Rattle.semantics.specs.Program.{functionOf}
 use Rattle.semantics.specs.Merge.{renumberedBlock}
 use Rattle.procedure_layout.specs.Rest.{restAt}
-use Rattle.procedure_names.specs.Writing.{blockBytes}
+use Rattle.procedure_names.specs.Writing.{blockBytes, receiverBytes}
 use Rattle.procedure_file.specs.Check.{programOf}
-use Rattle.procedure_file.specs.Places.{blockOf, handlerOf}
+use Rattle.procedure_file.specs.Places.{blockOf, handlerOf, receiverOf}
 
--- "Mark `SPF`, version (16 bits, 1), function count".
-abbrev pub headBytes : ℕ → List ℕ
-headBytes functions = 83 ∷ 80 ∷ 70 ∷ 1 ∷ 0 ∷ functions ∷ []
+-- "Mark `SPF`, version (16 bits, 1), function count"; the version is the files' own (document 02, Slip 7).
+abbrev pub headBytes : (version functions : ℕ) → List ℕ
+headBytes version functions = 83 ∷ 80 ∷ 70 ∷ version ∷ 0 ∷ functions ∷ []
 
 -- The bytes from one offset up to another.
 abbrev pub stretch : List ℕ → ℕ → ℕ → List ℕ
@@ -37,6 +37,10 @@ entryBytes s f n =
     functionOf (programOf s) f .params ∷ functionOf (programOf s) f .locals ∷ length (functionOf (programOf s) f .blocks)
     ∷ blockBytes (renumberedBlock n (functionOf (programOf s) f .entry))
 
--- The block with label l of function f, its handler first.
+-- What stands before the block with label l of function f: its handler, and in version 2 its receiver.
+abbrev pub labelHead : List ℕ → ℕ → ℕ → List ℕ
+labelHead s f l = let F = functionOf (programOf s) f in handlerOf F l ∷ receiverBytes (F .version) (receiverOf F l)
+
+-- That block.
 unfoldable pub labelBytes : List ℕ → ℕ → ℕ → ℕ → List ℕ
-labelBytes s f l n = handlerOf (functionOf (programOf s) f) l ∷ blockBytes (renumberedBlock n (blockOf (functionOf (programOf s) f) l))
+labelBytes s f l n = labelHead s f l ++ blockBytes (renumberedBlock n (blockOf (functionOf (programOf s) f) l))

@@ -3,6 +3,7 @@ use casts::byte_number;
 use procedure_file::table;
 use procedure_layout::layout::After;
 use procedure_layout::layout::after_of;
+use procedure_layout::layout::bytes_before;
 use procedure_operations::operation::operation_at;
 use translator_bytes::bytes;
 ghost use mathlib.Core.List.{map};
@@ -76,7 +77,7 @@ fn put_block(file: &[u8], start: usize, count: u8, out: &mut [u8], o: usize) -> 
     }
 }
 
-// The block with label l, which is not 0, of function f: its handler, then its operations.
+// The block with label l, which is not 0, of function f: its handler and receiver, then its operations.
 fn put_label(
     file: &[u8],
     starts: &[u16; 2048],
@@ -91,9 +92,10 @@ fn put_label(
     requires { ⌜ Room o (labelBytes (now file) f l count) (now out) ⌝ }
     ensures { λ r. ⌜ Wrote o (labelBytes (now (file .entry)) f l count) (now (out .entry)) r (now (out .exit)) ⌝ }
 {
-    let handler = table::handler_of(file, starts, f, l);
     let start = table::start_of(file, starts, f, l);
-    let place = bytes::put_one(out, o, handler);
+    let before = bytes_before(file);
+    let head = start - before;
+    let place = put_stretch(file, head, start, out, o);
     put_block(file, start, count, out, place)
 }
 

@@ -6,6 +6,7 @@ use parsing::Refusal;
 use parsing::or_else;
 use parsing::refusals;
 use parsing::refused_unless;
+use parsing::version_of;
 use procedure_file::check::load;
 use procedure_file::table::functions_of;
 use procedure_layout::layout::FILE_LIMIT;
@@ -16,7 +17,7 @@ ghost use lib.ListN.{length};
 ghost use Rattle.parsing.specs.Parser.{verdictOf};
 ghost use Rattle.runs.specs.Tells.{tellsBy, leaves};
 ghost use Rattle.translator_bytes.specs.Writes.{Room, Wrote};
-ghost use Rattle.merge.specs.Merged.{mergedOf, toldBy, sizeVerdict, filesVerdict, answerOf, outputOf};
+ghost use Rattle.merge.specs.Merged.{mergedOf, toldBy, versionVerdict, sizeVerdict, filesVerdict, answerOf, outputOf};
 ghost use Rattle.merge.specs.Parts.{headBytes};
 ghost use Rattle.merge.specs.Asked.{BothLoaded, FewFunctions};
 
@@ -24,6 +25,14 @@ ghost use Rattle.merge.specs.Asked.{BothLoaded, FewFunctions};
 pub enum Merged {
     Written(usize),
     Refused(Refusal),
+}
+
+// 2: the versions of two files.
+fn version_checked(first: &[u8], second: &[u8]) -> Checked
+    ensures { λ r. ⌜ verdictOf r ≡ versionVerdict (now (first .entry)) (now (second .entry)) ⌝ }
+{
+    let same = version_of(first) == version_of(second);
+    refused_unless(same, refusals::WRONG_VERSION, 3)
 }
 
 // 22 and 16: the functions and the bytes of a merged file, and the room lent for it.
@@ -41,13 +50,13 @@ fn size_checked(functions: usize, size: usize, room: usize) -> Checked
 }
 
 // Mark, version and function count.
-fn put_head(out: &mut [u8], functions: u8) -> usize
-    requires { ⌜ Room 0 (headBytes functions) (now out) ⌝ }
-    ensures { λ r. ⌜ Wrote 0 (headBytes functions) (now (out .entry)) r (now (out .exit)) ⌝ }
+fn put_head(out: &mut [u8], version: u8, functions: u8) -> usize
+    requires { ⌜ Room 0 (headBytes version functions) (now out) ⌝ }
+    ensures { λ r. ⌜ Wrote 0 (headBytes version functions) (now (out .entry)) r (now (out .exit)) ⌝ }
 {
     let mark = b"SPF";
     let place = put_three(out, 0, mark[0], mark[1], mark[2]);
-    put_three(out, place, 1, 0, functions)
+    put_three(out, place, version, 0, functions)
 }
 
 // The merged file: its head, the first file's functions as they stand, the second's with its calls renumbered.
@@ -56,21 +65,24 @@ fn put_file(first: &[u8], second: &[u8], starts: &[u16; 2048], out: &mut [u8]) -
     requires { ⌜ Room 0 (mergedOf (now first) (now second)) (now out) ⌝ }
     ensures { λ r. ⌜ Wrote 0 (mergedOf (now (first .entry)) (now (second .entry))) (now (out .entry)) r (now (out .exit)) ⌝ }
 {
+    let version = version_of(first);
     let kept = functions_of(first);
     let all = kept + functions_of(second);
-    let head = put_head(out, all as u8);
+    let head = put_head(out, version, all as u8);
     let place = functions::put_stretch(first, 6, first.len(), out, head);
     functions::put_functions(second, starts, kept as u8, out, place)
 }
 
-// The merge of two loaded files: 22 and 16 are decided before the first byte is written.
+// The merge of two loaded files: 2, 22 and 16 are decided before the first byte is written.
 fn merge_loaded(first: &[u8], second: &[u8], starts: &[u16; 2048], out: &mut [u8]) -> Merged
     requires { ⌜ BothLoaded (now first) (now second) (now starts) ⌝ }
     ensures { λ r. ⌜ (toldBy r ≡ tellsBy (filesVerdict (now (first .entry)) (now (second .entry)) (length (now (out .entry)))) (length (mergedOf (now (first .entry)) (now (second .entry))))) × (now (out .exit) ≡ leaves (filesVerdict (now (first .entry)) (now (second .entry)) (length (now (out .entry)))) (mergedOf (now (first .entry)) (now (second .entry))) (now (out .entry))) ⌝ }
 {
+    let version = version_checked(first, second);
     let functions = functions_of(first) + functions_of(second);
     let size = first.len() + (second.len() - 6);
-    match size_checked(functions, size, out.len()) {
+    let room = size_checked(functions, size, out.len());
+    match or_else(version, room) {
         Checked::Refused(r) => Merged::Refused(r),
         Checked::Accepted => {
             put_file(first, second, starts, out);

@@ -18,7 +18,7 @@ use Rattle.merge.proofs.put_file.Tie as tie
 
 -- Ways back to earlier places that several answers take.
 abbrev entry-before-counted : tie.After-functions-of2 → tie.Start
-entry-before-counted c = c .before .before .before .before .before
+entry-before-counted c = c .before .before .before .before .before .before
 
 abbrev counted-before-put-head : tie.After-put-head → tie.After-functions-of2
 counted-before-put-head c = c .before .before
@@ -33,14 +33,18 @@ few-at c = few (entry-before-counted c .pre .0 .0) (c .before .functions-of .ens
 -- The head, the first file's functions, the second's.
 abbrev rest-at : (c : tie.After-functions-of2) → let entry = entry-before-counted c in
     Rest 0 (mergedOf (entry .args .first .now) (entry .args .second .now)) (entry .args .out .now) 0
-    (headBytes (c .before .functions-of .result + c .functions-of2 .result)
+    (headBytes (c .before .before .version-of .result) (c .before .functions-of .result + c .functions-of2 .result)
     ++ (stretch (entry .args .first .now) 6 (length (entry .args .first .now)) ++ joined functionBytes (map (renumberedFunction (c .before .functions-of .result)) (programOf (entry .args .second .now)))))
     (entry .args .out .now)
 rest-at c =
     let entry = entry-before-counted c in
     let B = entry .pre .0 .0 in
     let kept = c .before .functions-of .ensures in
-    file-rest B (c .before .functions-of .result + c .functions-of2 .result) (c .before .functions-of .result) (count-is B kept (c .functions-of2 .ensures)) kept (entry .pre .1)
+    file-rest B (c .before .before .version-of .result) (c .before .functions-of .result + c .functions-of2 .result) (c .before .functions-of .result) (c .before .before .version-of .ensures)
+    (count-is B kept (c .functions-of2 .ensures)) kept (entry .pre .1)
+
+version-of-requires : tie.Need-version-of-requires
+version-of-requires c κs = search needs
 
 functions-of-requires : tie.Need-functions-of-requires
 functions-of-requires c κs = search needs
@@ -93,6 +97,7 @@ pub put-file-spec : {M : Type 1} → statement M
 put-file-spec =
     tie.close
     (tie.spec
+    version-of-requires
     functions-of-requires
     functions-of-requires-2
     add-all

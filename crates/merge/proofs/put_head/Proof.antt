@@ -28,7 +28,7 @@ returns c =
     let at-version = c .before .before in
     let at-mark = at-version .before .before .before .before in
     let entry = at-mark .before .before .before .before .before .before .before in
-    wrote-both (83 ∷ 80 ∷ 70 ∷ []) (1 ∷ 0 ∷ entry .args .functions ∷ []) (entry .pre) (at-mark .put-three .ensures) (at-version .put-three2 .ensures)
+    wrote-both (83 ∷ 80 ∷ 70 ∷ []) (entry .args .version ∷ 0 ∷ entry .args .functions ∷ []) (entry .pre) (at-mark .put-three .ensures) (at-version .put-three2 .ensures)
 
 pub put-head-spec : {M : Type 1} → statement M
 put-head-spec =
