@@ -1,10 +1,10 @@
 -- Document 01's starred cases ('The test procedure and its neighbours'), as one table under one theorem, by computation of the rules
--- from the bytes of the files. Steps are bench, controller. Document 02, Slip 2: "The wrap case becomes: raises."
+-- from the bytes of the files. Steps are bench, controller. Document 02, Slip 2: "The wrap case becomes: raises." Rows of version 2 (Slip 7) follow.
 use Prim.Native.Nat.{ℕ, _+_, _*_}
 use mathlib.Core.Path.{_≡_, refl}
 use mathlib.Core.List.{List, [], _∷_, _++_}
 use lib.IntN.{ℤ, pos}
-use lib.ListN.{take, set}
+use lib.ListN.{take, drop, set}
 use Rattle.semantics.specs.Value.{least, inRange, atMost}
 use Rattle.semantics.specs.Run.{value, uncaught, Stop, ended, spent, deep}
 use Rattle.semantics.specs.Bench.{step, bench}
@@ -84,6 +84,48 @@ subtractsCalled =
     2 ∷ 0 ∷ 0 ∷
     3 ∷ 0 ∷ 0 ∷ 1 ∷ 6 ∷ 0 ∷ []
 
+-- Slip 7, files of version 2. Main, one argument: in a block, label 1, whose handler is label 2, it is raised; label 2 receives it in the same
+-- variable, which is returned.
+abbrev pub receivesItself : List ℕ
+receivesItself =
+    0x53 ∷ 0x50 ∷ 0x46 ∷ 2 ∷ 0 ∷ 1 ∷
+    1 ∷ 0 ∷ 2 ∷
+    5 ∷ 1 ∷
+    2 ∷ 255 ∷ 9 ∷ 0 ∷
+    0 ∷ 0 ∷ 6 ∷ 0 ∷ []
+
+-- Main, one argument, which is raised.
+abbrev pub raisesArgument : List ℕ
+raisesArgument = 0x53 ∷ 0x50 ∷ 0x46 ∷ 2 ∷ 0 ∷ 1 ∷ 1 ∷ 0 ∷ 0 ∷ 9 ∷ 0 ∷ []
+
+-- Main without variables that only raises.
+abbrev pub onlyRaisesZero : List ℕ
+onlyRaisesZero = 0x53 ∷ 0x50 ∷ 0x46 ∷ 2 ∷ 0 ∷ 1 ∷ 0 ∷ 0 ∷ 0 ∷ 8 ∷ []
+
+-- Main, one argument: a block, label 1, whose handler is label 2, calls function 1, which makes its argument 7 and calls function 2 with it, which
+-- raises it; label 2 receives it two frames up in the argument, which is returned.
+abbrev pub raisesTwoFramesUp : List ℕ
+raisesTwoFramesUp =
+    0x53 ∷ 0x50 ∷ 0x46 ∷ 2 ∷ 0 ∷ 3 ∷
+    1 ∷ 0 ∷ 2 ∷
+    5 ∷ 1 ∷
+    2 ∷ 255 ∷ 4 ∷ 0 ∷ 1 ∷ 1 ∷ 0 ∷ 6 ∷ 0 ∷
+    0 ∷ 0 ∷ 6 ∷ 0 ∷
+    1 ∷ 0 ∷ 0 ∷
+    1 ∷ 0 ∷ 7 ∷ 0 ∷ 0 ∷ 0 ∷ 4 ∷ 0 ∷ 2 ∷ 1 ∷ 0 ∷ 6 ∷ 0 ∷
+    1 ∷ 0 ∷ 0 ∷
+    9 ∷ 0 ∷ []
+
+-- Main, two arguments: in a block, label 1, whose handler is label 2, the first less the second; label 2 receives the number of a difference out of
+-- range in the second, which is returned.
+abbrev pub receivesMisfit : List ℕ
+receivesMisfit =
+    0x53 ∷ 0x50 ∷ 0x46 ∷ 2 ∷ 0 ∷ 1 ∷
+    2 ∷ 0 ∷ 2 ∷
+    5 ∷ 1 ∷
+    2 ∷ 255 ∷ 3 ∷ 0 ∷ 0 ∷ 1 ∷ 6 ∷ 0 ∷
+    0 ∷ 1 ∷ 6 ∷ 1 ∷ []
+
 -- A row of the table.
 pub data Row : Type 0 where
   -- A file, and the checker's answer.
@@ -113,7 +155,7 @@ table =
     ∷ runs fileT (pos 5 ∷ []) 256 0 106 (spent tt) 0 1 1
     ∷ runs fileT (pos 5 ∷ []) 256 4 106 (spent tt) 4 4 8
     ∷ runs fileT (pos 5 ∷ []) 256 5 106 (ended (value (pos 5))) 5 4 9
-    ∷ runs subtracts (least ∷ pos 1 ∷ []) 256 100 21 (ended uncaught) 1 1 2
+    ∷ runs subtracts (least ∷ pos 1 ∷ []) 256 100 21 (ended (uncaught (pos 0))) 1 1 2
     ∷ runs subtracts (least ∷ pos 0 ∷ []) 256 100 21 (ended (value least)) 2 0 2
     ∷ runs subtractsGuarded (least ∷ pos 1 ∷ []) 256 100 44 (ended (value least)) 3 1 4
     ∷ runs subtractsCalled (least ∷ pos 1 ∷ []) 256 100 68 (ended (value least)) 4 3 7
@@ -123,17 +165,36 @@ table =
     ∷ checksWithOneMore fileT (refused 4 41)
     ∷ checks (set fileT 11 3) (refused 8 11)
     ∷ checks (set fileT 28 2) (refused 10 15)
-    ∷ runs onlyRaises [] 256 100 12 (ended uncaught) 1 0 1
+    ∷ runs onlyRaises [] 256 100 12 (ended (uncaught (pos 0))) 1 0 1
     ∷ runs callsThenRaises [] 256 100 72 (ended (value (pos 0))) 5 3 8
+    ∷ runs receivesItself (pos 5 ∷ []) 256 100 36 (ended (value (pos 5))) 3 1 4
+    ∷ runs raisesArgument (pos 5 ∷ []) 256 100 13 (ended (uncaught (pos 5))) 1 0 1
+    ∷ runs onlyRaisesZero [] 256 100 19 (ended (uncaught (pos 0))) 1 1 2
+    ∷ runs raisesTwoFramesUp (pos 5 ∷ []) 256 100 82 (ended (value (pos 7))) 6 3 9
+    ∷ runs receivesMisfit (least ∷ pos 1 ∷ []) 256 100 50 (ended (value (pos 0))) 3 2 5
+    ∷ checks (set receivesItself 16 1) (refused 7 16)
+    ∷ checks (set raisesArgument 3 1) (refused 6 9)
+    ∷ checks (set raisesArgument 3 3) (refused 2 3)
     ∷ []
+
+versionTwo : All Holds (drop 18 table)
+unfolding sidesTell controllerBudget sidesVerdict callVerdict startVerdict argumentsVerdict wordsVerdict roomVerdict translationOf checkOf
+    programOf Layout.program Layout.functions Layout.function Layout.heading Layout.labelled Layout.bytesBefore Layout.block Layout.walk Operation.operationAt
+    Operation.constantAt Operation.copyAt Operation.differenceAt Operation.callAt Operation.gotoAt Operation.returnAt
+    Operation.branchAt Operation.endAt Operation.raiseValueAt Fields.head Fields.version Fields.count Fields.ended Fields.valueOf Names.namesOf
+    Writing.writing Target.codeOf TargetLayout.code TargetLayout.targets TargetLayout.functions TargetLayout.function
+    Expressions.expression Parts.pair Parts.levelVerdict Tag.numberWidth Tag.numberSlotAt Tag.tagAt Tag.constantAt Tag.copyAt Tag.differenceAt Tag.jumpAt
+    Tag.resumeAt Tag.handleAt Tag.branchAt Tag.continuationAt Tag.continuationWithHandlerAt Tag.differenceOrRaiseAt TagNames.judged inRange atMost
+    step bench code translate controlStep controller extras
+versionTwo = (refl, (refl, (refl, (refl, (refl, (refl, (refl, (refl, tt))))))))
 
 pub cases : All Holds table
 unfolding sidesTell controllerBudget sidesVerdict callVerdict startVerdict argumentsVerdict wordsVerdict roomVerdict translationOf checkOf
-    programOf Layout.program Layout.functions Layout.function Layout.heading Layout.labelled Layout.block Layout.walk Operation.operationAt
+    programOf Layout.program Layout.functions Layout.function Layout.heading Layout.labelled Layout.bytesBefore Layout.block Layout.walk Operation.operationAt
     Operation.constantAt Operation.copyAt Operation.differenceAt Operation.callAt Operation.gotoAt Operation.returnAt
-    Operation.branchAt Operation.endAt Fields.head Fields.version Fields.count Fields.ended Fields.valueOf Names.namesOf
+    Operation.branchAt Operation.endAt Operation.raiseValueAt Fields.head Fields.version Fields.count Fields.ended Fields.valueOf Names.namesOf
     Writing.writing Target.codeOf TargetLayout.code TargetLayout.targets TargetLayout.functions TargetLayout.function
-    Expressions.expression Parts.pair Parts.levelVerdict Tag.tagAt Tag.constantAt Tag.copyAt Tag.differenceAt Tag.jumpAt
+    Expressions.expression Parts.pair Parts.levelVerdict Tag.numberWidth Tag.numberSlotAt Tag.tagAt Tag.constantAt Tag.copyAt Tag.differenceAt Tag.jumpAt
     Tag.resumeAt Tag.handleAt Tag.branchAt Tag.continuationAt Tag.continuationWithHandlerAt Tag.differenceOrRaiseAt TagNames.judged inRange atMost
     step bench code translate controlStep controller extras
-cases = (refl, (refl, (refl, (refl, (refl, (refl, (refl, (refl, (refl, (refl, (refl, (refl, (refl, ((λ b. refl), (refl, (refl, (refl, (refl, tt))))))))))))))))))
+cases = (refl, (refl, (refl, (refl, (refl, (refl, (refl, (refl, (refl, (refl, (refl, (refl, (refl, ((λ b. refl), (refl, (refl, (refl, (refl, versionTwo))))))))))))))))))

@@ -3,14 +3,16 @@ use Prim.Native.Nat.{ℕ, zero, suc, _+_, _≤_}
 use native.Mathlib.Omega.{arith}
 use mathlib.Core.Path.{_≡_, refl, sym, ap, _∙_}
 use mathlib.Core.List.{List, [], _∷_, _++_, map, append-assoc}
+use mathlib.Core.Option.{Option, none, some}
 use lib.ListN.{length, length-append}
 use Rattle.parsing.specs.Parser.{joined}
 use Rattle.parsing.specs.ParserLaws.{joined-append}
-use Rattle.semantics.specs.Program.{FunctionNumber, Handler, Block, constant, copy, difference, call, goto, return, branch, raise, Labelled, Function, Program, variables}
+use Rattle.semantics.specs.Program.{FunctionNumber, Variable, Label, Handler, Block, constant, copy, difference, call, goto, return, branch, raise, Labelled, Function, Program, variables}
+use Rattle.semantics.specs.Bench.{labelledAt}
 use Rattle.semantics.specs.Merge.{renumberedBlock, renumberedLabelled, renumberedFunction, merged}
 use Rattle.semantics.specs.Code.{Slot, Expr, Target, Code}
-use Rattle.semantics.specs.Translation.{slotOf, raiseCode, code, bindZeros, entryTarget, blockTarget, targets, number, translateFunction, translateFrom, translate}
-use Rattle.target_file.specs.Writing.{size, targetBytes, writing}
+use Rattle.semantics.specs.Translation.{slotOf, toLabel, receiverIn, receiverAt, receiverSlot, parameterSlot, bindRaised, raiseCode, code, bindZeros, entryTarget, blockTarget, targets, number, translateFunction, translateFrom, translate}
+use Rattle.target_file.specs.Writing.{slotWidth, size, targetBytes, writing}
 use Rattle.target_file.specs.ReadsBackLaws.{bytes-length}
 
 zeros-size : (x : Slot) (n : ℕ) (e e′ : Expr) → size e ≡ size e′ → size (bindZeros x n e) ≡ size (bindZeros x n e′)
@@ -25,49 +27,73 @@ joined-length a b = ap length (joined-append targetBytes a b) ∙ length-append 
 
 -- Neither the numbers of functions nor a renumbering of calls changes a size.
 module _ (ns ns′ : FunctionNumber → ℕ) (k : ℕ) where
-  raise-size : (base base′ v : ℕ) (h : Handler) → size (raiseCode base v h) ≡ size (raiseCode base′ v h)
-  raise-size base base′ v zero = refl
-  raise-size base base′ v (suc l) = refl
+  -- The renumbered function has the same receivers.
+  receiver-same : (Bs : List Labelled) (l : Label) → receiverIn (labelledAt (map (renumberedLabelled k) Bs) l) ≡ receiverIn (labelledAt Bs l)
+  receiver-same Bs zero = refl
+  receiver-same [] (suc l) = refl
+  receiver-same (B ∷ Bs) (suc zero) = refl
+  receiver-same (B ∷ Bs) (suc (suc l)) = receiver-same Bs (suc l)
 
-  code-size : (base base′ v : ℕ) (h : Handler) (b : Block) → size (code ns base v h (renumberedBlock k b)) ≡ size (code ns′ base′ v h b)
-  unfolding code
-  code-size base base′ v h (constant x i b) = ap (λ (n : ℕ). 2 + (4 + n)) (code-size base base′ v h b)
-  code-size base base′ v h (copy x y b) = ap (λ (n : ℕ). 3 + n) (code-size base base′ v h b)
-  code-size base base′ v h (difference x y z b) = let a = raise-size base base′ v h in let c = code-size base base′ v h b in omega (arith, a, c)
-  code-size base base′ v zero (call x g ys b) = let c = code-size base base′ v zero b in omega (arith, c)
-  code-size base base′ v (suc l) (call x g ys b) = let c = code-size base base′ v (suc l) b in omega (arith, c)
-  code-size base base′ v h (goto l) = refl
-  code-size base base′ v h (return x) = refl
-  code-size base base′ v h (branch y z l m) = refl
-  code-size base base′ v h raise = raise-size base base′ v h
+  bound-size : (s : Option Slot) (r : Option Variable) (base base′ v : ℕ) (l : Label) → size (bindRaised s r (toLabel base v l)) ≡ size (bindRaised s r (toLabel base′ v l))
+  bound-size none r base base′ v l = refl
+  bound-size (some s) none base base′ v l = refl
+  bound-size (some s) (some y) base base′ v l = refl
 
-  blocks-size : (base base′ v : ℕ) (Bs : List Labelled)
-      → length (joined targetBytes (map (blockTarget ns base v) (map (renumberedLabelled k) Bs))) ≡ length (joined targetBytes (map (blockTarget ns′ base′ v) Bs))
-  blocks-size base base′ v [] = refl
-  blocks-size base base′ v (B ∷ Bs) =
-      let D = blockTarget ns base v (renumberedLabelled k B) in
-      let D′ = blockTarget ns′ base′ v B in
-      omega (
-        arith,
-        target-size D D′ (code-size base base′ v (B .handler) (B .block)),
-        blocks-size base base′ v Bs,
-        length-append (targetBytes D) (joined targetBytes (map (blockTarget ns base v) (map (renumberedLabelled k) Bs))),
-        length-append (targetBytes D′) (joined targetBytes (map (blockTarget ns′ base′ v) Bs)),
-      )
+  module _ (F : Function) where
+    abbrev G : Function
+    G = renumberedFunction k F
+
+    raise-size : (base base′ : ℕ) (h : Handler) (r : Option Variable) → size (raiseCode base G h r) ≡ size (raiseCode base′ F h r)
+    raise-size base base′ zero none = refl
+    raise-size base base′ zero (some y) = refl
+    raise-size base base′ (suc l) r =
+        ap (λ (q : Option Variable). size (bindRaised (receiverSlot q) r (toLabel base (variables F) (suc l)))) (receiver-same (F .blocks) (suc l))
+        ∙ bound-size (receiverSlot (receiverAt F (suc l))) r base base′ (variables F) (suc l)
+
+    parameter-same : (q : Option Variable) → parameterSlot G q ≡ parameterSlot F q
+    parameter-same none = refl
+    parameter-same (some x) = refl
+
+    code-size : (base base′ : ℕ) (h : Handler) (b : Block) → size (code ns base G h (renumberedBlock k b)) ≡ size (code ns′ base′ F h b)
+    unfolding code
+    code-size base base′ h (constant x i b) = ap (λ (n : ℕ). 2 + (4 + n)) (code-size base base′ h b)
+    code-size base base′ h (copy x y b) = ap (λ (n : ℕ). 3 + n) (code-size base base′ h b)
+    code-size base base′ h (difference x y z b) = let a = raise-size base base′ h none in let c = code-size base base′ h b in omega (arith, a, c)
+    code-size base base′ zero (call x g ys b) = let c = code-size base base′ zero b in omega (arith, c)
+    code-size base base′ (suc l) (call x g ys b) =
+        let c = code-size base base′ (suc l) b in
+        omega (arith, c, ap slotWidth (parameter-same (receiverAt G (suc l)) ∙ ap (parameterSlot F) (receiver-same (F .blocks) (suc l))))
+    code-size base base′ h (goto l) = refl
+    code-size base base′ h (return x) = refl
+    code-size base base′ h (branch y z l m) = refl
+    code-size base base′ h (raise r) = raise-size base base′ h r
+
+    blocks-size : (base base′ : ℕ) (Bs : List Labelled)
+        → length (joined targetBytes (map (blockTarget ns base G) (map (renumberedLabelled k) Bs))) ≡ length (joined targetBytes (map (blockTarget ns′ base′ F) Bs))
+    blocks-size base base′ [] = refl
+    blocks-size base base′ (B ∷ Bs) =
+        let D = blockTarget ns base G (renumberedLabelled k B) in
+        let D′ = blockTarget ns′ base′ F B in
+        omega (
+          arith,
+          target-size D D′ (code-size base base′ (B .handler) (B .block)),
+          blocks-size base base′ Bs,
+          length-append (targetBytes D) (joined targetBytes (map (blockTarget ns base G) (map (renumberedLabelled k) Bs))),
+          length-append (targetBytes D′) (joined targetBytes (map (blockTarget ns′ base′ F) Bs)),
+        )
 
   function-size : (base base′ : ℕ) (F : Function)
       → length (joined targetBytes (translateFunction ns base (renumberedFunction k F))) ≡ length (joined targetBytes (translateFunction ns′ base′ F))
   function-size base base′ F =
-      let v = variables F in
       let G = renumberedFunction k F in
       let D = entryTarget ns base G in
       let D′ = entryTarget ns′ base′ F in
       omega (
         arith,
-        target-size D D′ (zeros-size (slotOf (F .params)) (F .locals) (code ns base v 0 (G .entry)) (code ns′ base′ v 0 (F .entry)) (code-size base base′ v 0 (F .entry))),
-        blocks-size base base′ v (F .blocks),
-        length-append (targetBytes D) (joined targetBytes (map (blockTarget ns base v) (G .blocks))),
-        length-append (targetBytes D′) (joined targetBytes (map (blockTarget ns′ base′ v) (F .blocks))),
+        target-size D D′ (zeros-size (slotOf (F .params)) (F .locals) (code ns base G 0 (G .entry)) (code ns′ base′ F 0 (F .entry)) (code-size F base base′ 0 (F .entry))),
+        blocks-size F base base′ (F .blocks),
+        length-append (targetBytes D) (joined targetBytes (map (blockTarget ns base G) (G .blocks))),
+        length-append (targetBytes D′) (joined targetBytes (map (blockTarget ns′ base′ F) (F .blocks))),
       )
 
   from-size : (base base′ : ℕ) (Fs : List Function)

@@ -1,7 +1,7 @@
 -- Demands 1 and 3 over files. Demand 1: each step of every accepted file of either kind has a next step or a named end. Demand 3: for every
 -- accepted procedure file whose translation fits, the translation is an accepted translated file, the run of the code that this file is
 -- agrees with the bench's run of the program that the procedure file is, and so do the answers of the two machines and what they are
--- charged. Whoever doubts the price list reads this file and `Agree` in the Statement of crate `semantics`; Theorem.antt proves it.
+-- charged. Both are said of files of version 1 and 2 alike. Whoever doubts the price list reads this file and `Agree` in the Statement of crate `semantics`; Theorem.antt proves it.
 -- f is the start function, 0 for main; on the controller it is that entry's number (document 02, Slip 4: "Started alike now includes the
 -- start function").
 use Prim.Native.Nat.{ℕ, _+_, _*_, _≤_, _<_}
@@ -14,7 +14,7 @@ use Rattle.semantics.specs.Program.{FunctionNumber, functionOf}
 use Rattle.semantics.specs.Run.{End, ended, deep, IsBroken, Result, oneMoreIfDeep, spentIfDeep}
 use Rattle.semantics.specs.Bench.{waiting, bench}
 use Rattle.semantics.specs.WellFormed.{WellFormedState}
-use Rattle.semantics.specs.Controller.{Control, inUse, controller, targetOf}
+use Rattle.semantics.specs.Controller.{Control, inUse, controller, targetOf, codeVersion}
 use Rattle.semantics.specs.SlotStates.{StateKeeps}
 use Rattle.semantics.specs.Translation.{number}
 use Rattle.semantics.specs.Extras.{extras}
@@ -24,7 +24,7 @@ use Rattle.parsing.specs.Bytes.{Bytes}
 use Rattle.memory.specs.Frame.{frameSize}
 use Rattle.memory.specs.Call.{maxDepth}
 use Rattle.procedure_file.specs.Check as Procedure
-use Rattle.target_tags.specs.Tag.{fileLimit, maxSlots}
+use Rattle.target_tags.specs.Tag.{fileLimit, slotsIn}
 use Rattle.target_file.specs.Check as Target
 use Rattle.translator.specs.Translated.{translationOf}
 use Rattle.runs.specs.Tells.{Tells, refuses, tells}
@@ -43,7 +43,7 @@ NeverBroken result (tells a) = ¬ IsBroken (result a .stop)
 -- "Each of its steps has a next step or a named end, on bench and controller alike", for every accepted procedure file, also one whose
 -- translation does not fit, and for every accepted translated file, hand-written too; for every start function, every argument list of the
 -- right number, every depth limit and budget. A state of the bench has as many variables as its function, and so has each frame; a state
--- of the controller keeps the slot rules, with 36 slots.
+-- of the controller keeps the slot rules, with the slots of its version.
 pub record FilesMove : Type 0 where
   pub bench : (s : List ℕ) → Bytes s → Procedure.checkOf s ≡ accepted
       → (f : FunctionNumber) → f < length (Procedure.programOf s) → (args : List ℤ) → length args ≡ functionOf (Procedure.programOf s) f .params → (depth : ℕ)
@@ -51,7 +51,7 @@ pub record FilesMove : Type 0 where
       × ((budget words : ℕ) → NeverBroken (λ t. t .result) (Bench.benchTells s f args depth budget words))
   pub controller : (t : List ℕ) → Bytes t → Target.checkOf t ≡ accepted
       → (g : ℕ) → g < length (Target.codeOf t) → (args : List ℤ) → length args ≡ targetOf (Target.codeOf t) g .params → (depth : ℕ)
-      → Sound (StateKeeps (Target.codeOf t) maxSlots) inUse depth (controller (Target.codeOf t) g args depth)
+      → Sound (StateKeeps (Target.codeOf t) (slotsIn (codeVersion (Target.codeOf t)))) inUse depth (controller (Target.codeOf t) g args depth)
       × ((budget words : ℕ) → NeverBroken (λ r. r) (Controller.controllerTells t g args depth budget words))
 
 -- ── Demand 3 ────────────────────────────────────────────────────────────────────────────────────
@@ -74,8 +74,8 @@ AnswersDeep result (refuses number place) = ⊥
 AnswersDeep result (tells a) = result a .stop ≡ deep tt
 
 -- What the machines answer, bytes in and answers out: the bench on the procedure file with a budget, and the controller on its translation
--- with bench steps + extras, one more where the bench stopped deep. Neither refuses; both stopped alike (the same value, uncaught, spent
--- or deep); controller steps = bench steps + extras.
+-- with bench steps + extras, one more where the bench stopped deep. Neither refuses; both stopped alike (the same value, uncaught with the
+-- same number, spent or deep); controller steps = bench steps + extras.
 pub record AnswersAgree (s : List ℕ) (f : FunctionNumber) (args : List ℤ) (depth budget frames records : ℕ) : Type 0 where
   pub told : Bench.Told
   pub benchTold : Bench.benchTells s f args depth budget frames ≡ tells told
@@ -103,7 +103,7 @@ pub record Claim (s : List ℕ) (f : FunctionNumber) (args : List ℤ) (depth : 
   pub arguments : length args ≡ targetOf (Target.codeOf (translationOf s)) (entryOf s f) .params
   -- Each step has a next step or a named end, on bench and controller alike.
   pub benchMoves : Sound (WellFormedState (Procedure.programOf s)) waiting depth (bench (Procedure.programOf s) f args depth)
-  pub controllerMoves : Sound (StateKeeps (Target.codeOf (translationOf s)) maxSlots) inUse depth (translationRun s f args depth)
+  pub controllerMoves : Sound (StateKeeps (Target.codeOf (translationOf s)) (slotsIn (codeVersion (Target.codeOf (translationOf s))))) inUse depth (translationRun s f args depth)
   -- Ends, steps and states agree at every budget.
   pub agree : Agree (Procedure.programOf s) (bench (Procedure.programOf s) f args depth) (extras (Procedure.programOf s) f args depth) (translationRun s f args depth)
   -- So do the answers, for every depth limit to 256 and every budget, "each lent 48 words per frame of the limit or more".

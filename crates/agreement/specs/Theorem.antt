@@ -3,14 +3,15 @@ use Prim.Native.Nat.{ℕ, zero, suc, _+_, _*_, _≤_, _<_}
 use native.Mathlib.Omega.{arith}
 use mathlib.Core.Path.{_≡_, refl, sym, ap, _∙_, subst}
 use mathlib.Core.List.{List, [], _∷_}
+use mathlib.Core.Option.{Option, none, some}
 use lib.IntN.{ℤ}
 use lib.ListN.{length}
-use Rattle.semantics.specs.Program.{FunctionNumber, Block, constant, copy, difference, call, goto, return, branch, raise, Labelled, Function, Program, functionOf}
+use Rattle.semantics.specs.Program.{FunctionNumber, Variable, Block, constant, copy, difference, call, goto, return, branch, raise, Labelled, Function, Program, functionOf, programVersion}
 use Rattle.semantics.specs.WellFormed.{All, WellFormedState}
 use Rattle.semantics.specs.Code.{Target, Code}
 use Rattle.semantics.specs.Run.{Stop, ended, spent, deep, broken, IsBroken, Result, told, oneMoreIfDeep}
 use Rattle.semantics.specs.Bench.{State, waiting, bench}
-use Rattle.semantics.specs.Controller.{inUse, controller, targetOf, noTarget}
+use Rattle.semantics.specs.Controller.{inUse, controller, targetOf, noTarget, codeVersion}
 use Rattle.semantics.specs.SlotStates.{StateKeeps}
 use Rattle.semantics.specs.Translation.{entryTarget, number, translate}
 use Rattle.semantics.specs.Extras.{extras}
@@ -25,12 +26,14 @@ use Rattle.parsing.specs.Parser.{Verdict, accepted, refused}
 use Rattle.parsing.specs.Bytes.{Bytes}
 use Rattle.memory.specs.CallLaws.{call-fits}
 use Rattle.runs.specs.Tells.{Tells, tells, tellsBy, toldOf}
-use Rattle.procedure_names.specs.Writing.{ValuesFit, FunctionInRange}
+use Rattle.procedure_names.specs.Writing.{ValuesFit, ReceiverFits, LabelledFits, FunctionInRange}
 use Rattle.procedure_file.specs.Check as Procedure
 use Rattle.procedure_file.specs.Accepted.{HasFile}
 use Rattle.procedure_file.specs.AcceptedLaws.{is-writing}
 use Rattle.target_file.specs.Check as Target
-use Rattle.target_file.specs.Translated.{BlockFits, FunctionFits, Source}
+use Rattle.target_file.specs.Translated.{NamedInTwo, BlockFits, FunctionFits, Source}
+use Rattle.target_file.specs.Translated as Translated
+use Rattle.target_tags.specs.Tag.{slotsIn}
 use Rattle.target_file.specs.AcceptedLaws as TargetLaws
 use Rattle.target_file.specs.TranslatedLaws.{translation-accepted, translation-rules}
 use Rattle.translator.specs.Translated.{translationOf}
@@ -42,36 +45,48 @@ use Rattle.charge.specs.ChargeLaws.{ended-charged}
 use Rattle.agreement.specs.Statement.{NeverBroken, FilesMove, entryOf, translationRun, controllerBudget, AnswersAgree, Claim, FilesAgree}
 
 -- The ranges of a procedure, as the crate of translated files has them.
-block-fits : (b : Block) → ValuesFit b → BlockFits b
-block-fits (constant x i b) f = (f .0, block-fits b (f .1))
-block-fits (copy x y b) f = block-fits b f
-block-fits (difference x y z b) f = block-fits b f
-block-fits (call x g ys b) f = block-fits b f
-block-fits (goto l) f = tt
-block-fits (return x) f = tt
-block-fits (branch y z l m) f = tt
-block-fits raise f = tt
+block-fits : (v : ℕ) (b : Block) → ValuesFit v b → BlockFits v b
+block-fits v (constant x i b) f = (f .0, block-fits v b (f .1))
+block-fits v (copy x y b) f = block-fits v b f
+block-fits v (difference x y z b) f = block-fits v b f
+block-fits v (call x g ys b) f = block-fits v b f
+block-fits v (goto l) f = tt
+block-fits v (return x) f = tt
+block-fits v (branch y z l m) f = tt
+block-fits v (raise none) f = tt
+block-fits v (raise (some x)) f = f
 
-blocks-fit : (bs : List Labelled) → All (λ B. ValuesFit (B .block)) bs → All (λ B. BlockFits (B .block)) bs
-blocks-fit [] a = tt
-blocks-fit (B ∷ bs) a = (block-fits (B .block) (a .0), blocks-fit bs (a .1))
+receiver-fits : (v : ℕ) (r : Option Variable) → ReceiverFits v r → NamedInTwo v r
+receiver-fits v none f = tt
+receiver-fits v (some x) f = f .0
 
-functions-fit : (Fs : List Function) → All FunctionInRange Fs → All FunctionFits Fs
-functions-fit [] a = tt
-functions-fit (F ∷ Fs) a = (
+blocks-fit : (v : ℕ) (bs : List Labelled) → All (LabelledFits v) bs → All (Translated.LabelledFits v) bs
+blocks-fit v [] a = tt
+blocks-fit v (B ∷ bs) a = ((receiver-fits v (B .receiver) (a .0 .0), block-fits v (B .block) (a .0 .1)), blocks-fit v bs (a .1))
+
+functions-fit : (v : ℕ) (Fs : List Function) → All (FunctionInRange v) Fs → All (FunctionFits v) Fs
+functions-fit v [] a = tt
+functions-fit v (F ∷ Fs) a = (
   record {
+    versionIs = a .0 .versionIs;
     params = a .0 .params;
     locals = a .0 .locals;
     blocks = a .0 .blocks;
-    entry = block-fits (F .entry) (a .0 .entryValues);
-    labelled = blocks-fit (F .blocks) (a .0 .blockValues);
+    entry = block-fits v (F .entry) (a .0 .entryValues);
+    labelled = blocks-fit v (F .blocks) (a .0 .blockValues);
   },
-  functions-fit Fs (a .1),
+  functions-fit v Fs (a .1),
 )
 
 source : (P : Program) → HasFile P → Source P
 source P h =
-    record { wellFormed = h .wellFormed; some = h .inRange .some; most = h .inRange .most; functions = functions-fit P (h .inRange .functions) }
+    record {
+      wellFormed = h .wellFormed;
+      version = h .inRange .version;
+      some = h .inRange .some;
+      most = h .inRange .most;
+      functions = functions-fit (programVersion P) P (h .inRange .functions);
+    }
 
 -- ── What each machine tells where it does not refuse ────────────────────────────────────────────
 
@@ -87,17 +102,17 @@ module _ (t : List ℕ) (g : ℕ) (args : List ℤ) (depth records : ℕ) (ok : 
   unfolding controllerTells controllerVerdict
   controller-tells budget = rw (ok, call-fits g (length (Target.codeOf t)) (length args) (targetOf (Target.codeOf t) g .params) depth records below la depthBound room)
 
-locals-bound : (P : Program) → All FunctionInRange P → (g : ℕ) → functionOf P g .locals ≤ 24
-locals-bound [] a g = omega arith
-locals-bound (F ∷ Fs) a zero = a .0 .locals
-locals-bound (F ∷ Fs) a (suc g) = locals-bound Fs (a .1) g
+locals-bound : (v : ℕ) (P : Program) → All (FunctionInRange v) P → (g : ℕ) → functionOf P g .locals ≤ 24
+locals-bound v [] a g = omega arith
+locals-bound v (F ∷ Fs) a zero = a .0 .locals
+locals-bound v (F ∷ Fs) a (suc g) = locals-bound v Fs (a .1) g
 
 -- Bench steps and extras together, for a budget of 32 bits.
 pub few-steps : (s : List ℕ) → Bytes s → Procedure.checkOf s ≡ accepted → (f : FunctionNumber) (args : List ℤ) (depth budget : ℕ) → budget < 4294967296
     → bench (Procedure.programOf s) f args depth budget .steps + extras (Procedure.programOf s) f args depth budget < 9223372036854775807
 few-steps s bytes ok f args depth budget h =
     let k = bench-bound (Procedure.programOf s) f args depth budget in
-    let l = extras-bound (Procedure.programOf s) 24 (omega arith) (locals-bound (Procedure.programOf s) (is-writing s bytes ok .0 .inRange .functions)) f args depth budget in
+    let l = extras-bound (Procedure.programOf s) 24 (omega arith) (locals-bound (programVersion (Procedure.programOf s)) (Procedure.programOf s) (is-writing s bytes ok .0 .inRange .functions)) f args depth budget in
     omega (arith, k, l)
 
 -- ── From the rules to the answers ───────────────────────────────────────────────────────────────
@@ -106,7 +121,7 @@ module _ (s : List ℕ) (f : FunctionNumber) (args : List ℤ) (depth : ℕ) (ok
     (la : length args ≡ functionOf (Procedure.programOf s) f .params) (accepts : Target.checkOf (translationOf s) ≡ accepted) (there : entryOf s f < length (Target.codeOf (translationOf s)))
     (lt : length args ≡ targetOf (Target.codeOf (translationOf s)) (entryOf s f) .params)
     (benchMoves : Sound (WellFormedState (Procedure.programOf s)) waiting depth (bench (Procedure.programOf s) f args depth))
-    (controllerMoves : Sound (StateKeeps (Target.codeOf (translationOf s)) 36) inUse depth (translationRun s f args depth))
+    (controllerMoves : Sound (StateKeeps (Target.codeOf (translationOf s)) (slotsIn (codeVersion (Target.codeOf (translationOf s))))) inUse depth (translationRun s f args depth))
     (agree : Agree (Procedure.programOf s) (bench (Procedure.programOf s) f args depth) (extras (Procedure.programOf s) f args depth) (translationRun s f args depth)) where
   abbrev P : Program
   P = Procedure.programOf s
@@ -177,7 +192,7 @@ files-agree s bytes ok fits f below args la depth =
     claimed s f args depth ok below la (translation-accepted .fits P S .1 fits) (subst (λ (Q : Code). g < length Q) (sym back) there)
     (la ∙ sym (ap (λ (D : Target). D .params) (ap (λ (Q : Code). targetOf Q g) back ∙ entry-is)))
     (bench-is-sound P (h .wellFormed) f below args la depth)
-    (subst (λ (Q : Code). Sound (StateKeeps Q 36) inUse depth (controller Q g args depth)) (sym back) (controller-is-sound 36 (translate P) (translation-rules P S) g there args (la ∙ sym (ap (λ (D : Target). D .params) entry-is)) depth))
+    (subst (λ (Q : Code). Sound (StateKeeps Q (slotsIn (codeVersion Q))) inUse depth (controller Q g args depth)) (sym back) (controller-is-sound (slotsIn (codeVersion (translate P))) (translate P) (translation-rules P S) g there args (la ∙ sym (ap (λ (D : Target). D .params) entry-is)) depth))
     (subst (λ (Q : Code). Agree P (bench P f args depth) (extras P f args depth) (controller Q g args depth)) (sym back) (demand3 P (h .wellFormed) f below args la depth))
     bytes
   where
@@ -222,6 +237,6 @@ files-move =
           let S = bench-is-sound (Procedure.programOf s) (is-writing s bytes ok .0 .wellFormed) f below args la depth in
           (S, λ budget words. never-broken (λ t. t .result) (Bench.runTells s f args depth budget) (told-broken (bench (Procedure.programOf s) f args depth budget .stop) (S .moves budget)) (benchVerdict s f (length args) depth words));
       controller = λ t bytes ok g below args la depth.
-          let S = controller-is-sound 36 (Target.codeOf t) (TargetLaws.is-writing t bytes ok .0 .rules) g below args la depth in
+          let S = controller-is-sound (slotsIn (codeVersion (Target.codeOf t))) (Target.codeOf t) (TargetLaws.is-writing t bytes ok .0 .rules) g below args la depth in
           (S, λ budget words. never-broken (λ r. r) (toldOf (controller (Target.codeOf t) g args depth budget)) (told-broken (controller (Target.codeOf t) g args depth budget .stop) (S .moves budget)) (controllerVerdict t g (length args) depth words));
     }
