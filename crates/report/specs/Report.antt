@@ -7,7 +7,7 @@ use lib.IntN.{ℤ}
 use lib.ListN.{length, getD, drop}
 use Rattle.parsing.specs.declared.Scan.{Scan}
 use Rattle.parsing.specs.declared.Scan.the-variants.{Past, Stopped}
-use Rattle.parsing.specs.Fields.{head, valueOf}
+use Rattle.parsing.specs.Fields.{versionOf, head, valueOf}
 use Rattle.text.specs.Text.{bothText, refusedText, noHeaderText}
 use Rattle.parsing.specs.Parser.{Verdict, accepted, refused, orElse, pastOf}
 use Rattle.memory.specs.Frame.{frameSize}
@@ -51,10 +51,10 @@ budgetOf s =
 abbrev pub headerOf : List ℕ → ℕ
 headerOf s = 4 * countOf s + 7
 
--- Both runs, or the refusal.
-unfoldable pub sidesText : Tells Told → List ℕ
-sidesText (refuses number place) = refusedText number place
-sidesText (tells t) = bothText (t .target) (t .bench .result .stop) (t .bench .result .steps) (t .controller .stop) (t .controller .steps)
+-- Both runs on a file of a version, or the refusal.
+unfoldable pub sidesText : ℕ → Tells Told → List ℕ
+sidesText version (refuses number place) = refusedText number place
+sidesText version (tells t) = bothText version (t .target) (t .bench .result .stop) (t .bench .result .steps) (t .controller .stop) (t .controller .steps)
 
 -- The text by a verdict: the refusal, or that of what was accepted.
 abbrev pub textBy : Verdict → List ℕ → List ℕ
@@ -64,7 +64,7 @@ textBy (refused number place) text = refusedText number place
 -- Of an accepted file: "it lends 8,192 bytes for the translation, made before either run, so its 16 comes before a run's 14." Each machine
 -- is lent 48 words for each of 256 frames.
 unfoldable pub loadedText : List ℕ → List ℤ → ℕ → ℕ → List ℕ
-loadedText s args depth budget = textBy (roomVerdict (length (translationOf s)) 8192) (sidesText (sidesTell s 0 args depth budget (frameSize * maxDepth) 8192 (frameSize * maxDepth)))
+loadedText s args depth budget = textBy (roomVerdict (length (translationOf s)) 8192) (sidesText (versionOf s) (sidesTell s 0 args depth budget (frameSize * maxDepth) 8192 (frameSize * maxDepth)))
 
 -- Whether a part was read.
 abbrev pub readVerdict : Scan → Verdict

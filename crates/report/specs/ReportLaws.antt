@@ -10,7 +10,7 @@ use lib.ListN.{length, getD, take, drop, set, length-set, length-drop}
 use lib.Seq.{take-all, take-length, take-suc-set, getD-take, getD-drop, length-take-le}
 use borrow.Author.Tests.{le-leb, lt-leb, leb-true, leb-false}
 use Rattle.parsing.specs.Bytes.{Bytes}
-use Rattle.parsing.specs.Fields.{head}
+use Rattle.parsing.specs.Fields.{versionOf, head}
 use Rattle.parsing.specs.BytesAtLaws.{read-head}
 use Rattle.file_head.specs.HeadLaws.{head-alike}
 use Rattle.parsing.specs.declared.Scan.{Scan}
@@ -74,14 +74,14 @@ wrote-within {at} {r} {w} {d} {d′} W =
 
 -- ── What an answer of the call prints ───────────────────────────────────────────────────────────
 
-pub told-refused : (a : Sides) {r : Refusal} → a .verdict ≡ Refused r → refusedText (r .number) (r .place) ≡ sidesText (sidesTold a)
+pub told-refused : (version : ℕ) (a : Sides) {r : Refusal} → a .verdict ≡ Refused r → refusedText (r .number) (r .place) ≡ sidesText version (sidesTold a)
 unfolding sidesText
-told-refused a {r} e = ap (λ (v : Checked). sidesText (tellsBy (verdictOf v) (saidBy a))) (sym e)
+told-refused version a {r} e = ap (λ (v : Checked). sidesText version (tellsBy (verdictOf v) (saidBy a))) (sym e)
 
-pub told-both : (a : Sides) → a .verdict ≡ Accepted
-    → bothText (a .target) (stoppedAs (a .bench .stopped)) (a .bench .steps) (stoppedAs (a .controller .stopped)) (a .controller .steps) ≡ sidesText (sidesTold a)
+pub told-both : (version : ℕ) (a : Sides) → a .verdict ≡ Accepted
+    → bothText version (a .target) (stoppedAs (a .bench .stopped)) (a .bench .steps) (stoppedAs (a .controller .stopped)) (a .controller .steps) ≡ sidesText version (sidesTold a)
 unfolding sidesText
-told-both a e = ap (λ (v : Checked). sidesText (tellsBy (verdictOf v) (saidBy a))) (sym e)
+told-both version a e = ap (λ (v : Checked). sidesText version (tellsBy (verdictOf v) (saidBy a))) (sym e)
 
 -- ── A file ──────────────────────────────────────────────────────────────────────────────────────
 
@@ -99,9 +99,9 @@ module _ (s : List ℕ) (args : List ℤ) (depth budget : ℕ) where
     unfolding loadedText
     room-refused q = checked-text _ (e ∙ ap (λ (k : ℕ). roomVerdict k 8192) is) q
 
-    pub loaded-sides : c ≡ Accepted → {t : Tells Told} (f r k : ℕ) → t ≡ sidesTell s 0 args depth budget f r k → f ≡ 12288 → r ≡ 8192 → k ≡ 12288 → sidesText t ≡ loadedText s args depth budget
+    pub loaded-sides : c ≡ Accepted → {t : Tells Told} {v : ℕ} (f r k : ℕ) → v ≡ versionOf s → t ≡ sidesTell s 0 args depth budget f r k → f ≡ 12288 → r ≡ 8192 → k ≡ 12288 → sidesText v t ≡ loadedText s args depth budget
     unfolding loadedText
-    loaded-sides q f r k g ef er ek = ap sidesText (g ∙ cc (ef, er, ek)) ∙ accepted-text _ (e ∙ ap (λ (k : ℕ). roomVerdict k 8192) is) q
+    loaded-sides q {t} f r k ev g ef er ek = ap (λ (n : ℕ). sidesText n t) ev ∙ ap (sidesText (versionOf s)) (g ∙ cc (ef, er, ek)) ∙ accepted-text _ (e ∙ ap (λ (k : ℕ). roomVerdict k 8192) is) q
 
   -- The head by the limit of `both`, then the file's own checks.
   module _ {x : Scan} (h : x ≡ pastOf (head spf 2048 s 0)) where

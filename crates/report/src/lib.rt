@@ -9,6 +9,7 @@ use memory::MAX_DEPTH;
 use parsing::Checked;
 use parsing::Refusal;
 use parsing::Scan;
+use parsing::version_of;
 use procedure_file::check::load;
 use text::write_both;
 use text::write_no_header;
@@ -53,10 +54,10 @@ fn write_refusal(out: &mut [u8], r: Refusal) -> usize
     write_refused(out, r.number as u64, r.place as u64)
 }
 
-// The three lines of both runs, or the refusal.
-fn write_sides(out: &mut [u8], a: Sides) -> usize
+// The three lines of both runs on a file of a version, or the refusal.
+fn write_sides(out: &mut [u8], version: u8, a: Sides) -> usize
     requires { ⌜ 256 ≤ length (now out) ⌝ }
-    ensures { λ r. ⌜ WroteText 0 (sidesText (sidesTold a)) (now (out .entry)) r (now (out .exit)) ⌝ }
+    ensures { λ r. ⌜ WroteText 0 (sidesText version (sidesTold a)) (now (out .entry)) r (now (out .exit)) ⌝ }
 {
     let verdict = a.verdict;
     match verdict {
@@ -68,6 +69,7 @@ fn write_sides(out: &mut [u8], a: Sides) -> usize
             let controller_stop = c.stopped;
             write_both(
                 out,
+                version,
                 a.target as u64,
                 bench_stop,
                 b.steps,
@@ -111,7 +113,7 @@ fn write_loaded(
         &mut room,
         &mut records,
     );
-    write_sides(out, a)
+    write_sides(out, version_of(file), a)
 }
 
 // A file: its head by the limit of 2,048 bytes, and checked once.

@@ -1,6 +1,9 @@
 -- The lines that program `both` prints (document 01, 'The test procedure and its neighbours'), as bytes.
 use Prim.Native.Nat.{ℕ}
+use mathlib.Core.Bool.{cond}
 use mathlib.Core.List.{List, [], _∷_, _++_}
+use lib.Dec.{eqb}
+use lib.IntN.{ℤ}
 use Rattle.semantics.specs.Run.{End, value, uncaught, Stop, ended, spent, deep, broken}
 use Rattle.decimal.specs.Decimal.{signed, numbered}
 
@@ -52,28 +55,33 @@ space = 32 ∷ []
 abbrev pub newline : List ℕ
 newline = 10 ∷ []
 
--- How a run stopped: `value` and its number, "Other ends print `uncaught`, `spent` or `deep`". A run of a checked file is never broken.
-unfoldable pub endText : End → List ℕ
-endText (value z) = valueWord ++ signed z
-endText uncaught = uncaughtWord
+-- The number raised: "which `both` prints after the word for version 2" (document 02, Slip 7).
+unfoldable pub raisedText : ℕ → ℤ → List ℕ
+raisedText version z = cond (eqb version 2) (space ++ signed z) []
 
-unfoldable pub stopText : Stop (Unit {0}) → List ℕ
-stopText (ended e) = endText e
-stopText (spent u) = spentWord
-stopText (deep u) = deepWord
-stopText (broken u) = []
+-- How a run stopped: `value` and its number, "Other ends print `uncaught`, `spent` or `deep`". A run of a checked file is never broken.
+unfoldable pub endText : ℕ → End → List ℕ
+endText version (value z) = valueWord ++ signed z
+endText version (uncaught z) = uncaughtWord ++ raisedText version z
+
+unfoldable pub stopText : ℕ → Stop (Unit {0}) → List ℕ
+stopText version (ended e) = endText version e
+stopText version (spent u) = spentWord
+stopText version (deep u) = deepWord
+stopText version (broken u) = []
 
 -- A machine's end and steps.
-unfoldable pub machineLine : List ℕ → Stop (Unit {0}) → ℕ → List ℕ
-machineLine name stop steps = name ++ space ++ stopText stop ++ numbered stepsWord steps ++ newline
+unfoldable pub machineLine : ℕ → List ℕ → Stop (Unit {0}) → ℕ → List ℕ
+machineLine version name stop steps = name ++ space ++ stopText version stop ++ numbered stepsWord steps ++ newline
 
 -- The count of the translation's bytes.
 unfoldable pub targetLine : ℕ → List ℕ
 targetLine n = numbered targetWord n ++ newline
 
--- "it prints the translation's bytes, then each machine's end and steps"
-unfoldable pub bothText : ℕ → Stop (Unit {0}) → ℕ → Stop (Unit {0}) → ℕ → List ℕ
-bothText n bstop bsteps cstop csteps = targetLine n ++ machineLine benchWord bstop bsteps ++ machineLine controllerWord cstop csteps
+-- "it prints the translation's bytes, then each machine's end and steps", of a file of a version.
+unfoldable pub bothText : ℕ → ℕ → Stop (Unit {0}) → ℕ → Stop (Unit {0}) → ℕ → List ℕ
+bothText version n bstop bsteps cstop csteps =
+    targetLine n ++ machineLine version benchWord bstop bsteps ++ machineLine version controllerWord cstop csteps
 
 -- "A refusal prints only `refused`, number, `at`, place."
 unfoldable pub refusedText : ℕ → ℕ → List ℕ

@@ -50,6 +50,9 @@ sides-loaded-requires c κs =
     let entry = entry-before-room-checked (c .before .before .before .before .before) in
     entry .pre .0
 
+version-of-requires : tie.Need-version-of-requires
+version-of-requires c κs = search needs
+
 write-sides-requires : tie.Need-write-sides-requires
 write-sides-requires c κs = search needs
 
@@ -58,13 +61,14 @@ same-length-2 c = search needs
 
 returns-2 : tie.Need-returns-2
 returns-2 c =
-    let at-sides = c .before .before .before .before .before .before .before in
+    let at-version-of = c .before .before .before in
+    let at-sides = at-version-of .before .before .before .before .before in
     let at-enum-told = at-sides .before .before .before .before in
     let at-room-checked = at-enum-told .before .before in
     let entry = entry-before-room-checked at-room-checked in
     wrote-as
     (loaded-sides (entry .args .file .now) (entry .args .arguments .now) (entry .args .depth) (entry .args .budget) (at-room-checked .before .translation-size .ensures)
-    (at-room-checked .room-checked .ensures) (at-enum-told .enum-told .given .1) _ _ _ (at-sides .sides-loaded .ensures .0) (omega arith) (omega arith) (omega arith))
+    (at-room-checked .room-checked .ensures) (at-enum-told .enum-told .given .1) _ _ _ (at-version-of .version-of .ensures) (at-sides .sides-loaded .ensures .0) (omega arith) (omega arith) (omega arith))
     (c .before .before .write-sides .ensures)
 
 pub write-loaded-spec : {M : Type 1} → statement M
@@ -82,6 +86,7 @@ write-loaded-spec =
     slice-aggregate-sides-loaded-2
     slice-aggregate-sides-loaded-3
     sides-loaded-requires
+    version-of-requires
     write-sides-requires
     same-length-2
     returns-2)

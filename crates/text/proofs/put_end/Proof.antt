@@ -20,14 +20,17 @@ put-bytes-requires c κs = search needs
 put-signed-requires : tie.Need-put-signed-requires
 put-signed-requires c κs = search needs
 
-enum-told : tie.Need-enum-told
-enum-told c = search needs
+enum-known-e-2 : tie.Need-enum-known-e-2
+enum-known-e-2 c = search needs
 
 slice-aggregate-put-bytes-2 : tie.Need-slice-aggregate-put-bytes-2
 slice-aggregate-put-bytes-2 c = search needs
 
 put-bytes-requires-2 : tie.Need-put-bytes-requires-2
 put-bytes-requires-2 c κs = search needs
+
+put-raised-requires : tie.Need-put-raised-requires
+put-raised-requires c κs = search needs
 
 same-length : tie.Need-same-length
 same-length c = search needs
@@ -38,16 +41,18 @@ returns c =
     let at-e = at-put-bytes .before .before .before .before in
     let entry = at-e .before .before .before in
     let f : SFits w32 (at-e .e .given .0 .0) = search needs in
-    wrote-as (end-value (entry .args .e) _ _ (at-e .e .given .1) (toZ-ofZ f)) (wrote-then (at-put-bytes .put-bytes .ensures) (c .before .before .put-signed .ensures))
+    wrote-as (end-value (entry .args .version) (entry .args .e) _ _ (at-e .e .given .1) (toZ-ofZ f)) (wrote-then (at-put-bytes .put-bytes .ensures) (c .before .before .put-signed .ensures))
 
 same-length-2 : tie.Need-same-length-2
 same-length-2 c = search needs
 
 returns-2 : tie.Need-returns-2
 returns-2 c =
-    let at-enum-told = c .before .before .before .before .before in
-    let entry = at-enum-told .before .before .before in
-    wrote-as (end-uncaught (entry .args .e) (at-enum-told .enum-told .given .1)) (c .before .before .put-bytes2 .ensures)
+    let at-put-bytes2 = c .before .before .before .before .before .before in
+    let at-e2 = at-put-bytes2 .before .before .before .before in
+    let entry = at-e2 .before .before .before in
+    let f : SFits w32 (at-e2 .e2 .given .0 .0) = search needs in
+    wrote-as (end-uncaught (entry .args .version) (entry .args .e) _ _ (at-e2 .e2 .given .1) (toZ-ofZ f)) (wrote-then (at-put-bytes2 .put-bytes2 .ensures) (c .before .before .put-raised .ensures))
 
 pub put-end-spec : {M : Type 1} → statement M
 put-end-spec =
@@ -57,9 +62,10 @@ put-end-spec =
     slice-aggregate-put-bytes
     put-bytes-requires
     put-signed-requires
-    enum-told
+    enum-known-e-2
     slice-aggregate-put-bytes-2
     put-bytes-requires-2
+    put-raised-requires
     same-length
     returns
     same-length-2

@@ -25,14 +25,14 @@ slice-aggregate-put-numbered c = search needs
 put-numbered-requires : tie.Need-put-numbered-requires
 put-numbered-requires c κs =
     let at-put-stopped = c .before .before .before .before in
-    let room = wrote-room _ 28 (at-put-stopped .put-stopped .ensures) (length-stop _) (omega arith) in omega arith
+    let room = wrote-room _ 28 (at-put-stopped .put-stopped .ensures) (length-stop _ _) (omega arith) in omega arith
 
 slice-aggregate-put-bytes-2 : tie.Need-slice-aggregate-put-bytes-2
 slice-aggregate-put-bytes-2 c = search needs
 
 put-bytes-requires-3 : tie.Need-put-bytes-requires-3
 put-bytes-requires-3 c κs =
-    let room = wrote-room _ 28 (c .before .before .before .before .before .before .before .before .before .put-stopped .ensures) (length-stop _) (omega arith) in
+    let room = wrote-room _ 28 (c .before .before .before .before .before .before .before .before .before .put-stopped .ensures) (length-stop _ _) (omega arith) in
     let rest = wrote-room _ 1 (c .before .before .before .before .put-numbered .ensures) (length-numbered _ _) (omega arith) in
     omega arith
 

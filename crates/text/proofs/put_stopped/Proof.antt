@@ -37,7 +37,7 @@ returns : tie.Need-returns
 unfolding stopText
 returns c =
     let at-s = c .before .before .before .before .before in
-    wrote-as (stopped-as _ _ (at-s .s .given .1)) (c .before .before .put-end .ensures)
+    wrote-as (stopped-as _ _ _ (at-s .s .given .1)) (c .before .before .put-end .ensures)
 
 same-length-2 : tie.Need-same-length-2
 same-length-2 c = search needs
@@ -46,7 +46,7 @@ returns-2 : tie.Need-returns-2
 unfolding stopText
 returns-2 c =
     let at-enum-told = c .before .before .before .before .before in
-    wrote-as (stopped-as _ _ (at-enum-told .enum-told .given .1)) (c .before .before .put-bytes .ensures)
+    wrote-as (stopped-as _ _ _ (at-enum-told .enum-told .given .1)) (c .before .before .put-bytes .ensures)
 
 same-length-3 : tie.Need-same-length-3
 same-length-3 c = search needs
@@ -55,7 +55,7 @@ returns-3 : tie.Need-returns-3
 unfolding stopText
 returns-3 c =
     let at-enum-told2 = c .before .before .before .before .before in
-    wrote-as (stopped-as _ _ (at-enum-told2 .enum-told2 .given .1)) (c .before .before .put-bytes2 .ensures)
+    wrote-as (stopped-as _ _ _ (at-enum-told2 .enum-told2 .given .1)) (c .before .before .put-bytes2 .ensures)
 
 pub put-stopped-spec : {M : Type 1} → statement M
 put-stopped-spec =

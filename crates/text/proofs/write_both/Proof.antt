@@ -16,7 +16,7 @@ slice-aggregate-put-machine c = search needs
 put-machine-requires : tie.Need-put-machine-requires
 put-machine-requires c κs =
     let at-put-target = c .before .before .before .before in
-    let room = wrote-room _ 128 (at-put-target .put-target .ensures) (length-target _) (omega arith) in omega arith
+    let room = wrote-room _ 133 (at-put-target .put-target .ensures) (length-target _) (omega arith) in omega arith
 
 slice-aggregate-put-machine-2 : tie.Need-slice-aggregate-put-machine-2
 slice-aggregate-put-machine-2 c = search needs
@@ -25,8 +25,8 @@ put-machine-requires-2 : tie.Need-put-machine-requires-2
 put-machine-requires-2 c κs =
     let at-put-machine = c .before .before .before .before in
     let at-put-target = at-put-machine .before .before .before .before .before in
-    let room = wrote-room _ 128 (at-put-target .put-target .ensures) (length-target _) (omega arith) in
-    let rest = wrote-room _ 66 (at-put-machine .put-machine .ensures) (length-machine _ _ _) (omega arith) in
+    let room = wrote-room _ 133 (at-put-target .put-target .ensures) (length-target _) (omega arith) in
+    let rest = wrote-room _ 69 (at-put-machine .put-machine .ensures) (length-machine _ _ _ _) (omega arith) in
     omega arith
 
 same-length : tie.Need-same-length
