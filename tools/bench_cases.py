@@ -1,28 +1,22 @@
 #!/usr/bin/env python3
 """Writes the cases of crates/bench_cases and the answers expected: run in the repository's root. Needs both.txt of
-../shared/vectors and of its folder slip-2, and start.txt of its folder slip-4.
+../shared/vectors and of its folders slip-2 and slip-7, and start.txt of its folders slip-4 and slip-7.
 
 The answers come from tools/procedure.py, and from the words of a frame in docs/FRAMES.md. Where a vector gives the bench's run, the model
 must give the same.
 """
-from procedure import Bench, Function, T, back, call, check, constant, difference, differs, goto, merged, written
-from records import GREATEST, LEAST, Refused, agree, call_of, header, judge_call, little, procedure_of, vectors, write
-
-
-def field(data, at, size, signed=False):
-    return int.from_bytes(data[at:at + size], "little", signed=signed)
+from procedure import Bench, Function, T, back, call, check, constant, difference, differs, goto, merged, throw, throw_value, written
+from raises import RAISES, STEPPED
+from records import GREATEST, LEAST, Refused, agree, call_of, header, input_of, judge_call, little, procedure_of, vectors, write
 
 
 def expected(delta, start, data):
-    count = data[0]
-    at = 4 * count + 1
-    if len(data) < at + 6:
+    if input_of(data) is None:
         return "no header"
-    arguments = [field(data, i, 4, True) for i in range(1, at, 4)]
-    depth, budget, file = field(data, at, 2), field(data, at + 2, 4), data[at + 6:]
+    arguments, depth, budget, file = input_of(data)
     try:
         functions = check(file)
-        judge_call(start, [f.parameters for f in functions], count, depth, delta)
+        judge_call(start, [f.parameters for f in functions], len(arguments), depth, delta)
     except Refused as r:
         return f"{r} kept"
     bench = Bench(file, functions, start, arguments)
@@ -55,7 +49,7 @@ add(b"SPG", [5, 6], 300, 100)
 
 # The vectors of `both` of at most 400 bytes, but for the empty input, which has no line here. The longer ones are above the file limit of
 # `both`, which the bench does not have, or refused for their depth as shorter ones are.
-for name in ("both.txt", "slip-2/both.txt"):
+def add_vectors(name):
     for data, text in vectors(name):
         if not 1 <= len(data) <= 400:
             continue
@@ -63,6 +57,10 @@ for name in ("both.txt", "slip-2/both.txt"):
         given = next((line[6:] for line in text.split(" | ") if line.startswith("bench ")), text)
         if name != "both.txt" or not differs(procedure_of(data)):
             agree(data.hex(), given, expected(*cases[-1]).split(" extras")[0].removesuffix(" kept"))
+
+
+add_vectors("both.txt")
+add_vectors("slip-2/both.txt")
 
 # A difference at both ends of the range: uncaught; caught in its own function, which returns the target; caught in the caller, past a frame
 # without a handler; its target another variable, or one that it reads.
@@ -80,11 +78,16 @@ for functions in lessen:
 for budget in range(8):
     add(written(*lessen[-1]), [LEAST, 1], 2, budget)
 
+
 # The vectors with a start function.
-for file, call_text, given, _ in vectors("slip-4/start.txt"):
-    start, arguments, depth, budget = call_of(call_text)
-    add(file, arguments, depth, budget, start=start)
-    agree(file.hex(), given, expected(*cases[-1]).split(" frames")[0])
+def add_started(name):
+    for file, call_text, given, _ in vectors(name):
+        start, arguments, depth, budget = call_of(call_text)
+        add(file, arguments, depth, budget, start=start)
+        agree(file.hex(), given, expected(*cases[-1]).split(" frames")[0])
+
+
+add_started("slip-4/start.txt")
 
 # Three functions of one parameter, of two and of none, of 1, 3 and 24 locals. The last is started, the number behind it and 255 are absent.
 several = written(
@@ -120,6 +123,21 @@ for file, start, arguments in (
     for whole, number in ((merged(file, T), start), (merged(T, file), start + 2)):
         add(whole, arguments, 2, 100, start=number)
         agree(whole.hex(), alone, expected(*cases[-1]))
+
+# Slip 7: the vectors; procedures that raise numbers, some at each budget; other versions than 1 and 2; operation 9 in version 1.
+add_vectors("slip-7/both.txt")
+add_started("slip-7/start.txt")
+for file, lists in RAISES:
+    for arguments in lists:
+        add(file, arguments, 2, 100)
+for file, lists in STEPPED:
+    bench = Bench(file, check(file), 0, lists[0])
+    bench.run(2, 100)
+    for budget in range(bench.steps):
+        add(file, lists[0], 2, budget)
+for version in (0, 3):
+    add(written(Function(0, 0, [throw]), version=version), [], 2, 100)
+add(written(Function(1, 0, [throw_value(0)])), [5], 2, 100)
 
 write(
     "bench_cases", (bytes([delta]) + little(len(data), 2) + bytes([start]) + data for delta, start, data in cases),

@@ -1,11 +1,11 @@
 #!/usr/bin/env python3
 """Writes the cases of crates/both_cases and the texts expected: run in the repository's root. Needs both.txt of ../shared/vectors
-and of its folders slip-2 and slip-5, and ../shared/peer/both.c, which it compiles with `cc` in a temporary folder.
+and of its folders slip-2, slip-5 and slip-7, and ../shared/peer/both.c, which it compiles with `cc` in a temporary folder.
 
-The peer is a program that reads one input of `both` and prints its text, written by other hands than the crates. The text of a vector is the
-one that the vectors give; the text of any other case is the peer's, and where document 01 lays it down it is written here too. Where a text
-given and the peer's differ, the one given is taken, and the difference is told. The peer tests a file's size first, as it was before Slip 5:
-the text of a file above the limit is made here.
+The peer is a program that reads one input of `both` and prints its text, written by other hands than the crates and the models. The texts
+come from tools/procedure.py and tools/target.py. Where a vector gives the text, where document 01 lays it down (it is then written here) and
+where the peer knows the file, theirs must be the same. The peer tests a file's size first, as it was before Slip 5, and does not know version
+2: of files above the limit and of those of version 2 it is not asked.
 """
 import os
 import random
@@ -15,37 +15,57 @@ import sys
 import tempfile
 from collections import Counter
 
-from procedure import T, T_FUNCTIONS, Function, back, branch, call, constant, difference, differs, duplicate, goto, throw, translation, written
-from records import GREATEST, LEAST, Refused, header, judge_head, little, procedure_of, shared, vectors, write
+from procedure import (
+    NONE, T, T_FUNCTIONS, Bench, Function, back, branch, call, check, constant, difference, differs, duplicate, goto, throw, throw_value,
+    translation, written)
+from raises import RAISES, STEPPED, T_2
+from records import (
+    GREATEST, LEAST, Refused, agree, header, input_of, judge_call, judge_head, little, numbered, procedure_of, shared, vectors, write)
+from target import check as check_target
+from target import run
 
 if shutil.which("cc") is None:
     sys.exit("cc is missing: the peer cannot be compiled")
 folder = tempfile.TemporaryDirectory()
 peer = os.path.join(folder.name, "both")
 subprocess.run(["cc", "-O1", "-DSLIPS=2", "-o", peer, shared("peer", "both.c")], check=True)
-cases, differences = [], []
+cases = []
 
 
 def peer_text(data):
     return subprocess.run([peer], input=data, capture_output=True, timeout=10, check=True).stdout.decode()
 
 
-# The text of a file above the limit.
-def long_text(file):
+def model_text(data):
+    if input_of(data) is None:
+        return no_header
+    arguments, depth, budget, file = input_of(data)
     try:
         judge_head(file, b"SPF", 2048)
+        functions, made = check(file), translation(file)
+        if len(made) > 65535:
+            raise Refused(17, 0)
+        if len(made) > 8192:
+            raise Refused(16, 0)
+        judge_call(0, [f.parameters for f in functions], len(arguments), depth, 128)
     except Refused as r:
         return f"{r}\n"
+    bench = Bench(file, functions, 0, arguments)
+    stop = bench.run(depth, budget)
+    end, steps, _ = run(check_target(made), 0, arguments, depth, bench.steps + bench.extras + (stop == "deep"))
+    return f"target {len(made)}\nbench {stop} steps {bench.steps}\ncontroller {end} steps {steps}\n"
 
 
 # An input of `both`, and the text that it is to print where this is laid down.
 def add_input(data, given=None):
     assert len(data) <= 4096
-    text = long_text(procedure_of(data)) if len(procedure_of(data)) > 2048 else peer_text(data)
-    if given is not None and given != text:
-        differences.append((data.hex(), given, text))
-    cases.append((data, text if given is None else given))
-    return cases[-1][1]
+    text, file = model_text(data), procedure_of(data)
+    if given is not None:
+        agree(data.hex(), given, text)
+    if len(file) <= 2048 and not numbered(file):
+        agree(data.hex(), peer_text(data), text)
+    cases.append((data, text))
+    return text
 
 
 def add(file, arguments, depth, budget, given=None):
@@ -68,7 +88,7 @@ most = 2 ** 32 - 1
 for name in ("both.txt", "slip-2/both.txt", "slip-5/both.txt"):
     for data, text in vectors(name):
         file = procedure_of(data)
-        changed = name == "both.txt" and differs(file) or name != "slip-5/both.txt" and len(file) > 2048 and long_text(file) != refused(15, 2048)
+        changed = name == "both.txt" and differs(file) or name != "slip-5/both.txt" and len(file) > 2048 and model_text(data) != refused(15, 2048)
         add_input(data, None if changed else text.replace(" | ", "\n") + "\n")
 from_vectors = len(cases)
 
@@ -78,14 +98,16 @@ def translated(*functions):
     return len(translation(written(*functions)))
 
 
-# An accepted procedure, run: the first line is known from the rules of translation.
-def add_run(functions, arguments, depth, budget, given=None):
-    text = add(written(*functions), arguments, depth, budget, given)
-    lines = text.splitlines()
-    assert lines[0] == f"target {translated(*functions)}", (lines, translated(*functions))
-    ends = [line.split(" steps ")[0].split(" ", 1) for line in lines[1:]]
-    assert [e[0] for e in ends] == ["bench", "controller"] and ends[0][1] == ends[1][1], lines
+# An accepted procedure, run.
+def add_file(file, arguments, depth, budget, given=None):
+    text = add(file, arguments, depth, budget, given)
+    ends = [line.split(" steps ")[0].split(" ", 1) for line in text.splitlines()[1:]]
+    assert [e[0] for e in ends] == ["bench", "controller"] and ends[0][1] == ends[1][1], text
     return text
+
+
+def add_run(functions, arguments, depth, budget, given=None):
+    return add_file(written(*functions), arguments, depth, budget, given)
 
 
 # File T of document 01: its own cases, and every budget up to past its end.
@@ -147,7 +169,7 @@ add(long[:2046] + b"\6\1", [], 256, 100, refused(7, 2047))
 add(long[:2046] + b"\5\0", [], 256, 100, refused(8, 2047))
 add(long[:2046] + b"\x09\0", [], 256, 100, refused(6, 2046))
 for data, given in (
-        (over, refused(15, 2048)), (b"X" + over[1:], refused(1, 0)), (over[:3] + b"\2" + over[4:], refused(2, 3)), (long + b"\0", refused(15, 2048)),
+        (over, refused(15, 2048)), (b"X" + over[1:], refused(1, 0)), (over[:3] + b"\2" + over[4:], refused(15, 2048)), (long + b"\0", refused(15, 2048)),
         (bytes(2049), refused(1, 0)), (bytes(2050), refused(1, 0)), (bytes(3000), refused(1, 0)), (over[:1] + b"X" + over[2:], refused(1, 1)),
         (over[:2] + b"X" + over[3:], refused(1, 2)), (over[:4] + b"\1" + over[5:], refused(2, 3)), (b"SPG\2" + over[4:], refused(1, 2))):
     add(data, [], 256, 100, given)
@@ -281,7 +303,7 @@ source = random.Random(20)
 values = (LEAST, GREATEST, -3, -2, -1, 0, 1, 2, 3, 5)
 
 
-def random_function(counts, shapes):
+def random_function(counts, shapes, version):
     parameters, locals_, blocks = counts
 
     def variable():
@@ -301,32 +323,73 @@ def random_function(counts, shapes):
         function = source.randrange(len(shapes))
         return call(variable(), function, [variable() for _ in range(shapes[function][0])])
 
+    def raising():
+        return throw if version == 1 else source.choice((throw, throw_value(variable())))
+
     # The later the block, the oftener it leaves the function.
     def last(at):
         if source.randrange(blocks + 1) <= at // 2:
-            return source.choice((back(variable()), back(variable()), throw))
+            return source.choice((back(variable()), back(variable()), raising()))
         kind = source.randrange(8)
         if kind < 2:
             return goto(label())
         if kind < 6:
             return branch(variable(), variable(), label(), label())
-        return throw if kind < 7 else back(variable())
+        return raising() if kind < 7 else back(variable())
 
     def block(at):
         return [operation() for _ in range(source.randrange(4))] + [last(at)]
 
+    def receiver():
+        return [] if version == 1 else [source.choice((NONE, variable(), variable()))]
+
     handlers = [source.choice((0, label(), label())) for _ in range(blocks)]
-    return Function(parameters, locals_, block(0), *((handlers[i], block(i + 1)) for i in range(blocks)))
+    return Function(parameters, locals_, block(0), *((handlers[i], *receiver(), block(i + 1)) for i in range(blocks)))
 
 
 made = []
-for _ in range(100):
-    shapes = [(source.randrange(4), source.randrange(1, 4), source.randrange(2, 6)) for _ in range(source.randrange(2, 5))]
-    functions = [random_function(counts, shapes) for counts in shapes]
-    arguments = [source.choice(values) for _ in range(shapes[0][0])]
-    made.append(add_run(functions, arguments, source.randrange(6), source.randrange(201)))
 
-assert len(cases) < 1100
+
+def add_random(version):
+    shapes = [(source.randrange(4), source.randrange(1, 4), source.randrange(2, 6)) for _ in range(source.randrange(2, 5))]
+    file = written(*(random_function(counts, shapes, version) for counts in shapes), version=version)
+    arguments = [source.choice(values) for _ in range(shapes[0][0])]
+    made.append(add_file(file, arguments, source.randrange(6), source.randrange(201)))
+
+
+for _ in range(100):
+    add_random(1)
+
+# Slip 7: the vectors; procedures that raise numbers, some at each budget and at smaller depths; random ones.
+before = len(cases)
+for data, text in vectors("slip-7/both.txt"):
+    add_input(data, text.replace(" | ", "\n") + "\n")
+from_vectors += len(cases) - before
+add_file(T_2, [0], 256, 100, ended(114, "value 7", 6, 12))
+number = written(Function(1, 0, [throw_value(0)]), version=2)
+for value in ends:
+    add_file(number, [value], 0, 1, ended(13, f"uncaught {value}", 1, 1))
+add_file(written(*raising, version=2), [], 0, 1, ended(19, "uncaught 0", 1, 2))
+add(written(Function(1, 0, [throw_value(0)])), [5], 0, 1, refused(6, 9))
+for file, lists in RAISES:
+    for arguments in lists:
+        add_file(file, arguments, 2, 100)
+for file, lists in STEPPED:
+    for budget in range(10):
+        add_file(file, lists[0], 2, budget)
+    for depth in range(2):
+        add_file(file, lists[0], depth, 100)
+for _ in range(40):
+    add_random(2)
+# Versions 0 and 3, and version 2 at and above the limit.
+for version in (b"\0", b"\3"):
+    add(T[:3] + version + T[4:], [5, 6], 257, 100, refused(2, 3))
+    add(over[:3] + version + over[4:], [5, 6], 257, 100, refused(2, 3))
+full_2 = long[:3] + b"\2" + long[4:]
+add_file(full_2, [], 0, most, ended(2056, "value 238", 341, 342))
+add(full_2 + b"\0", [1], 257, 100, refused(15, 2048))
+
+assert len(cases) < 1500
 # An input too long: the run ends there, and what follows gets no answer.
 inputs = [data for data, _ in cases] + [bytes(4097), header([5], 256, 100) + T]
 write("both_cases", (little(len(data), 2) + data for data in inputs), (text for _, text in cases))
@@ -339,5 +402,3 @@ def kind(text):
 
 print(len(cases), "cases,", from_vectors, "from the vectors:", dict(Counter(kind(text) for _, text in cases)))
 print("random:", dict(Counter(map(kind, made))))
-for data, given, text in differences:
-    print("the peer differs:", data, "given", repr(given), "peer", repr(text))

@@ -1,15 +1,16 @@
 #!/usr/bin/env python3
 """Writes the cases of crates/controller_cases and the answers expected: run in the repository's root. Needs target.txt of
-../shared/vectors and of its folders slip-2 to slip-4, and start.txt of slip-4.
+../shared/vectors and of its folders slip-2 to slip-4 and slip-7, and start.txt of slip-4 and slip-7.
 
 The answers come from tools/target.py. Where a vector gives a refusal or a run, the model must give the same.
 """
 from collections import Counter
 
 from procedure import T as PROCEDURE
-from procedure import Function, back, call, entries, goto, merged, translation, written
+from procedure import Bench, Function, back, call, entries, goto, merged, translation, written
 from procedure import check as check_procedure
-from records import GREATEST, LEAST, Refused, agree, call_of, constant, difference, duplicate, judge_call, little, signed, vectors, write
+from raises import AGAIN, RAISES, TWO_UP
+from records import GREATEST, LEAST, Refused, agree, call_of, constant, difference, duplicate, judge_call, little, numbered, signed, vectors, write
 from target import before_slip_3, both, branch, check, continuation, difference_or_raise, function, handle, jump, resume, run, target
 
 
@@ -31,25 +32,29 @@ def add(file, arguments, depth, budget, delta=128, start=0):
     cases.append((delta, start, list(arguments), depth, budget, bytes(file)))
 
 
+# A vector: a refused file, or a call and its run. The answer of the model to it.
+def add_vector(file, *fields):
+    start, arguments, depth, budget = call_of(fields[0]) if len(fields) > 1 else (0, [], 256, 100)
+    add(file, arguments, depth, budget, start=start)
+    return expected(cases[-1]).split(" records")[0].removesuffix(" kept")
+
+
 # The vectors as they stand, and each accepted file with depth 2 and a small budget. Kept for below: a refused file for each number, of
-# Slip 3's vectors and of those after it for numbers not told before.
+# Slip 3's vectors and of those after it for numbers not told before. Version 2 was refused before Slip 7.
 short = []
 wrong = {}
 for name, told in (
         ("target.txt", before_slip_3), ("slip-2/target.txt", before_slip_3), ("slip-3/target.txt", str), ("slip-4/target.txt", str)):
     for file, *fields in vectors(name):
+        ours = add_vector(file, *fields)
+        if not numbered(file):
+            agree(file.hex(), fields[-1], told(ours))
         if len(fields) == 1:
-            add(file, [], 256, 100)
-            given = fields[0]
-            number = given.split()[1]
+            number = fields[0].split()[1]
             if told is before_slip_3 or number not in wrong:
                 wrong[number] = file
         else:
-            start, arguments, depth, budget = call_of(fields[0])
-            add(file, arguments, depth, budget, start=start)
-            given = fields[1]
-            short.append((file, start, arguments))
-        agree(file.hex(), given, told(expected(cases[-1]).split(" records")[0].removesuffix(" kept")))
+            short.append((file, *call_of(fields[0])[:2]))
 
 # File T of document 01, translated.
 T = translation(PROCEDURE)
@@ -199,13 +204,18 @@ for y, z in ((LEAST, 1), (LEAST, 0), (GREATEST, -1), (GREATEST, 0), (GREATEST, L
 each_budget(guarded, [LEAST, 1], 2)
 each_budget(guarded, [LEAST, 0], 2)
 
+
 # The vectors with a start function, translated: started at its entry, with the bench's steps and extras, one more where it stopped deep.
-for file, call_text, bench, given in vectors("slip-4/start.txt"):
-    start, arguments, depth, _ = call_of(call_text)
-    number = entries(check_procedure(file))[start]
-    stop, *_, steps, _, extras = bench.split()
-    add(translation(file), arguments, depth, int(steps) + int(extras) + (stop == "deep"), start=number)
-    agree(file.hex(), given, f"controller start {number} " + expected(cases[-1]).split(" records")[0])
+def add_started(name):
+    for file, call_text, bench, given in vectors(name):
+        start, arguments, depth, _ = call_of(call_text)
+        number = entries(check_procedure(file))[start]
+        stop, *_, steps, _, extras = bench.split()
+        add(translation(file), arguments, depth, int(steps) + int(extras) + (stop == "deep"), start=number)
+        agree(file.hex(), given, f"controller start {number} " + expected(cases[-1]).split(" records")[0])
+
+
+add_started("slip-4/start.txt")
 
 # Three functions of one parameter, of two and of 32. The last is started; the number behind it is absent, and so are those beyond a byte.
 several = target(
@@ -246,6 +256,58 @@ for file, start, arguments in (
     for whole, number in ((merged(file, PROCEDURE), start), (merged(PROCEDURE, file), start + 2)):
         add(translation(whole), arguments, 2, 100, 200, entries(check_procedure(whole))[number])
         agree(whole.hex(), alone, expected(cases[-1]))
+
+# Slip 7: the vectors.
+for file, *fields in vectors("slip-7/target.txt"):
+    agree(file.hex(), fields[-1], add_vector(file, *fields))
+add_started("slip-7/start.txt")
+# Procedures that raise numbers, translated: the end of the bench, after its steps and extras; some at each budget.
+for file, lists in RAISES:
+    for arguments in lists:
+        bench = Bench(file, check_procedure(file), 0, arguments)
+        stop = bench.run(2, 100)
+        add(translation(file), arguments, 2, bench.steps + bench.extras, 200)
+        agree(file.hex(), f"{stop} steps {bench.steps + bench.extras}", expected(cases[-1]).split(" records")[0])
+for file, lists in (TWO_UP, AGAIN):
+    each_budget(translation(file), lists[0], 2)
+
+
+# A file of version 2. The number raised is received: by a slot that was bound before, by one that was not, by the continuation's slot, the
+# parameter's and the handler's, by slots 0, 1 and 36; the handler's own body raises it on; an older record's handler drops the newer ones.
+def version_2(*functions):
+    return target(*functions, version=2)
+
+
+def received(number, caught, raised=handle(6, 2)):
+    inner = continuation(7, 8, constant(2, 70) + raised, resume(4, 8))
+    return version_2(function(1, both(4, 5, 6, inner, caught, resume(0, 5), number=[number])))
+
+
+for file in (
+        *(received(x, difference(9, x, 2) + resume(0, 9)) for x in (3, 4, 5, 6, 1, 36)), received(2, resume(0, 2)),
+        received(0, handle(1, 0)), received(9, handle(1, 9)), received(1, resume(0, 1)), received(9, resume(0, 9), resume(4, 2)),
+        received(9, handle(1, 2)), received(9, handle(1, 2), handle(1, 2))):
+    add(file, [9], 2, 100, 200)
+each_budget(received(36, handle(1, 36)), [-9], 2)
+# Each slot from 2 on is kept in a record: all of them are there in the handler's body and in the continuation's.
+slots = range(2, 37)
+many = b"".join(constant(x, 1 << x % 30) for x in slots if x > 33)
+lost = b"".join(constant(x, 0) for x in slots if x > 2)
+total = b"".join(difference(2, 2, x) for x in slots if x > 2) + resume(0, 2)
+for last in (handle(1, 2), resume(0, 2)):
+    add(version_2(function(32, many + both(0, 3, 1, lost + last, total, total, number=[3]))), range(100, 132), 1, 200, 200)
+# Slot 36 as a continuation and as a handler.
+for last in (resume(36, 2), handle(35, 2)):
+    add(version_2(function(1, both(36, 4, 35, last, resume(0, 5), difference(4, 4, 2) + resume(0, 4), number=[5]))), [9], 1, 100, 200)
+for last in (resume(35, 2), handle(36, 2)):
+    add(version_2(function(1, both(35, 36, 36, last, difference(36, 36, 2) + resume(0, 36), resume(0, 36), number=[36]))), [9], 1, 100, 200)
+# Uncaught, at the ends of the range and where the part of tag 10 raises 0; refused: slot 36 in version 1, slot 37, versions 0 and 3.
+for number in (LEAST, -1, 0, 1, GREATEST):
+    add(version_2(function(1, handle(1, 2))), [number], 0, 100)
+for arguments in ([LEAST, 1], [LEAST, 0]):
+    add(version_2(function(2, difference_or_raise(4, 2, 3, constant(36, 0) + handle(1, 36), resume(0, 4)))), arguments, 0, 100)
+for version, body in ((1, constant(36, 5) + resume(0, 36)), (2, constant(37, 5) + resume(0, 37)), (0, resume(0, 2)), (3, resume(0, 2))):
+    add(target(function(1, body), version=version), [5], 0, 100)
 
 write(
     "controller_cases",

@@ -1,11 +1,13 @@
 #!/usr/bin/env python3
-"""Writes the cases of crates/merge_cases and the answers expected: run in the repository's root. Needs ../shared/vectors/slip-4/merge.txt.
+"""Writes the cases of crates/merge_cases and the answers expected: run in the repository's root. Needs merge.txt of
+../shared/vectors/slip-4 and ../shared/vectors/slip-7.
 
 The answers come from tools/procedure.py. Where a vector gives the answer, the model must give the same.
 """
 from collections import Counter
 
-from procedure import LIMIT, Function, T, back, branch, call, check, constant, difference, duplicate, goto, merged, throw, written
+from procedure import LIMIT, Function, T, back, branch, call, check, constant, difference, duplicate, goto, merged, throw, throw_value, written
+from raises import RAISES, T_2
 from records import Refused, agree, little, vectors, write
 
 cases = []
@@ -26,10 +28,14 @@ def answer(first, second, room):
         return b"", str(r)
 
 
-for first, second, room, given in vectors("slip-4/merge.txt"):
-    add(first, bytes.fromhex(second), int(room.split()[1]))
-    made, refusal = answer(*cases[-1])
-    agree(first.hex(), given, refusal or f"written {made.hex()}")
+def add_vectors(name):
+    for first, second, room, given in vectors(name):
+        add(first, bytes.fromhex(second), int(room.split()[1]))
+        made, refusal = answer(*cases[-1])
+        agree(first.hex(), given, refusal or f"written {made.hex()}")
+
+
+add_vectors("slip-4/merge.txt")
 
 # T with T: room for the merged file exactly, one byte too few, none, one byte more, and more: what stands behind the merged file is kept.
 add(T, T, 76, 75, 0, 77, 300)
@@ -92,6 +98,40 @@ for file in (bytes(LIMIT + 1), T.ljust(LIMIT + 1, b"\0")):
     add(T, file, 20)
 add(b"", T, 90)
 add(T, b"", 90)
+
+# Slip 7: the vectors. Version 2 with version 2: room for the merged file exactly, one byte too few; over 32 functions; bytes of 4 that are no
+# call among receivers and raised variables.
+add_vectors("slip-7/merge.txt")
+
+
+# A file without labelled blocks reads the same in version 2.
+def of_version_2(file):
+    return file[:3] + b"\2" + file[4:]
+
+
+add(T_2, T_2, 84, 83, 300)
+for file, _ in RAISES[-3:]:
+    add(file, T_2, 200)
+add(of_version_2(crossed(31)), T_2, 400)
+fours = written(
+    Function(
+        4, 1, [call(4, 4, []), goto(4)], (4, 4, [constant(4, 0x04040404), call(4, 4, []), throw_value(4)]), (0, 255, [throw]),
+        (4, 3, [throw_value(4)]), (0, 4, [call(4, 0, [4] * 4), back(4)])),
+    *[Function(0, 5, [throw_value(4)])] * 3, Function(0, 5, [call(4, 4, []), throw_value(4)]), version=2)
+add(T_2, fours, 200)
+add(fours, T_2, 200)
+# Two versions: 2 at the second's place 3, before 22 and 16, after both files' checks.
+for first, second in ((T, T_2), (T_2, T)):
+    add(first, second, 90, 0)
+    add(first, second[:-1], 20)
+    add(first[:-1], second, 20)
+    add(first, second + b"\0", 20)
+    add(first[:3] + b"\3" + first[4:], second, 20)
+    add(first, second[:3] + b"\0" + second[4:], 20)
+add(crossed(32), T_2, 20)
+add(T_2, crossed(32), 0)
+add(crossed(16), of_version_2(crossed(16)), 300)
+add(of_version_2(filled(16388)), filled(16387), 10)
 
 # One output, of 65,536 bytes, of which each case lends the front. A merged file is accepted.
 out = bytearray(65536)

@@ -1,10 +1,11 @@
 #!/usr/bin/env python3
 """Writes the cases of crates/procedure_cases and the answers expected: run in the repository's root. Needs both.txt of ../shared/vectors and
-long.txt of its folder slip-5.
+of its folder slip-7, and long.txt of its folder slip-5.
 
-The answers come from the checker of tools/procedure.py.
+The answers come from the checker of tools/procedure.py. Where a vector of Slips 5 and 7 gives the answer, the checker must give the same.
 """
-from procedure import LIMIT, T, branch, call, check, constant, difference, duplicate, goto
+from procedure import LIMIT, NONE, T, Function, branch, call, check, constant, difference, duplicate, goto, throw, throw_value, written
+from raises import AGAIN, T_2
 from records import GREATEST, LEAST, Refused, agree, little, long_vectors, vectors, write
 
 
@@ -24,11 +25,11 @@ def answer(kind, f, label, s):
         return str(r)
 
 
-def given():
-    """The files in the vectors of `both`."""
-    for b, _ in vectors("both.txt"):
+def given(name):
+    """The files in the vectors of `both`, each with its text."""
+    for b, text in vectors(name):
         if b and len(b) >= 7 + 4 * b[0]:
-            yield b[7 + 4 * b[0]:]
+            yield b[7 + 4 * b[0]:], text
 
 
 def file(count, *parts):
@@ -80,14 +81,47 @@ def damaged():
     yield long[:-1] + b"\1"
 
 
+def numbered():
+    """Files of our own, of version 2 but for some."""
+    for version in (0, 2, 3, 258):
+        yield written(Function(0, 0, [throw]), version=version)
+    for version in (1, 2):
+        for last in ([9], [9, 0], [9, 1], [9, 255], [10, 0]):
+            yield written(Function(1, 0, [bytes(last)]), version=version)
+    for x in (0, 31, 32, 254, NONE):
+        yield written(Function(8, 24, [goto(1)], (0, x, [throw])), version=2)
+    # Handler, receiver and operations in reading order; the receiver of a function without variables.
+    for h, v, x in ((2, 1, 1), (0, 1, 1), (1, 1, 0), (1, 0, 1), (1, NONE, 1), (1, 0, 0)):
+        yield written(Function(1, 0, [goto(1)], (h, v, [throw_value(x)])), version=2)
+    for v in (0, NONE):
+        yield written(Function(0, 0, [goto(1)], (0, v, [throw])), version=2)
+    file, _ = AGAIN
+    for i in range(len(file)):
+        yield file[:i]
+        for v in (0, 1, 2, 3, 4, 8, 9, 10, 255):
+            yield file[:i] + bytes([v]) + file[i + 1:]
+
+
 # Each file is checked once; some are looked up in.
 long = dict(long_vectors("SPF"))
 for s, told in long.items():
     agree(s[:6].hex(), told, answer(0, 0, 0, s))
-cases = [(0, 0, 0, s) for s in dict.fromkeys([*given(), *damaged(), *long])]
+cases = [(0, 0, 0, s) for s in dict.fromkeys([*(s for s, _ in given("both.txt")), *damaged(), *long])]
 for s in (T, T[:-1], b"", T[:11] + b"\3" + T[12:]):
     for f in (0, 1, 2, 31, 32, 255):
         for label in (0, 1, 2, 3, 63, 64, 255):
+            cases.append((1, f, label, s))
+
+# Slip 7: the vectors, whose refusals up to 10 are the checker's and whose 15 is the limit of `both`.
+old = {s for *_, s in cases}
+told = list(given("slip-7/both.txt"))
+for s, text in told:
+    if not text.startswith("refused 15 "):
+        agree(s.hex(), text if text.startswith("refused ") and int(text.split()[1]) <= 10 else "accepted", answer(0, 0, 0, s))
+cases += [(0, 0, 0, s) for s in dict.fromkeys([*(s for s, _ in told), *numbered()]) if s not in old]
+for s in (T_2, AGAIN[0], T_2[:-1]):
+    for f in (0, 1, 2):
+        for label in (0, 1, 2, 3, 4):
             cases.append((1, f, label, s))
 
 write(

@@ -65,6 +65,15 @@ def procedure_of(data):
     return data[4 * data[0] + 7:] if data else b""
 
 
+def input_of(data):
+    """An input of `both`: arguments, depth, budget and procedure file; None where it ends inside the first four fields."""
+    if not data or len(data) < 4 * data[0] + 7:
+        return None
+    at = 4 * data[0] + 1
+    arguments = [int.from_bytes(data[i:i + 4], "little", signed=True) for i in range(1, at, 4)]
+    return arguments, int.from_bytes(data[at:at + 2], "little"), int.from_bytes(data[at + 2:at + 6], "little"), data[at + 6:]
+
+
 def wrapped(z):
     """A value outside the range, wrapped back into it."""
     return (z - LEAST) % 2 ** 32 + LEAST
@@ -87,10 +96,15 @@ def judge_head(s, mark, limit):
             raise Refused(1, i)
     if len(s) < 5:
         raise Refused(3, len(s))
-    if s[3] + 256 * s[4] != 1:
+    if s[3] + 256 * s[4] not in (1, 2):
         raise Refused(2, 3)
     if len(s) > limit:
         raise Refused(15, limit)
+
+
+def numbered(s):
+    """Whether a file is of version 2, in which a fault carries a number. The vectors from before Slip 7 refuse it."""
+    return s[3:5] == b"\2\0"
 
 
 def judge_call(start, parameters, given, depth, delta):

@@ -1,8 +1,8 @@
 #!/usr/bin/env python3
 """Writes the cases of crates/target_cases and the answers expected: run in the repository's root. Needs target.txt of
-../shared/vectors and of its folders slip-2 to slip-4, and long.txt of slip-5.
+../shared/vectors and of its folders slip-2 to slip-4 and slip-7, and long.txt of slip-5.
 
-The answers come from the checker of tools/target.py.
+The answers come from the checker of tools/target.py. Where a vector of Slips 5 and 7 gives the answer, the checker must give the same.
 """
 import random
 from collections import Counter
@@ -18,8 +18,8 @@ def add(file):
 
 
 # A file of one function, of one parameter: slot 0 is a continuation, 1 a handler, 2 whole.
-def add_body(body, length=None):
-    add(target(function(1, body, length)))
+def add_body(body, length=None, version=1):
+    add(target(function(1, body, length), version=version))
 
 
 def answer(file):
@@ -108,27 +108,39 @@ add(target(function(1, branch(2, 2, raising, raising)))[:-1])
 for cut in (3, 4, 5):
     add(target(function(1, both(5, 3, 6, raising, raising, raising)))[:-cut])
 
-# Slots 35 and 36 in each place.
-bound = constant(35, 1)
+
+# A slot in each place; the last slot is bound. In version 2 `value` is tag 6's value slot and `number` tag 9's handler parameter slot.
+def places(x, last, value=(), number=()):
+    raising, bound = handle(1, *value), constant(last, 1)
+    return (
+        constant(x, -1) + resume(0, 2), duplicate(x, 2) + resume(0, 2), difference(x, 2, 2) + resume(0, 2),
+        bound + duplicate(3, x) + resume(0, 2), bound + difference(3, x, 2) + resume(0, 2), bound + difference(3, 2, x) + resume(0, 2),
+        difference_or_raise(x, 2, 2, raising, raising), bound + difference_or_raise(3, x, 2, raising, raising),
+        bound + difference_or_raise(3, 2, x, raising, raising), continuation(x, 3, raising, raising), continuation(3, x, raising, raising),
+        both(x, 3, 4, raising, raising, raising, number=number), both(3, x, 4, raising, raising, raising, number=number),
+        both(3, 4, x, raising, raising, raising, number=number), bound + resume(0, x), bound + resume(x, 2), handle(x, *value),
+        bound + branch(x, 2, raising, raising), bound + branch(2, x, raising, raising), bound + jump(0, 0, 1, [x]),
+        bound + jump(0, x, 1, [2]), bound + jump(0, 0, x, [2]))
+
+
 for x in (35, 36, 255):
-    for body in (
-            constant(x, -1) + resume(0, 2), duplicate(x, 2) + resume(0, 2), difference(x, 2, 2) + resume(0, 2),
-            bound + duplicate(3, x) + resume(0, 2), bound + difference(3, x, 2) + resume(0, 2), bound + difference(3, 2, x) + resume(0, 2),
-            difference_or_raise(x, 2, 2, raising, raising), bound + difference_or_raise(3, x, 2, raising, raising),
-            bound + difference_or_raise(3, 2, x, raising, raising), continuation(x, 3, raising, raising), continuation(3, x, raising, raising),
-            both(x, 3, 4, raising, raising, raising), both(3, x, 4, raising, raising, raising), both(3, 4, x, raising, raising, raising),
-            bound + resume(0, x), bound + resume(x, 2), handle(x), bound + branch(x, 2, raising, raising), bound + branch(2, x, raising, raising),
-            bound + jump(0, 0, 1, [x]), bound + jump(0, x, 1, [2]), bound + jump(0, 0, x, [2])):
+    for body in places(x, 35):
         add_body(body)
 
+
 # Each kind where each other is needed: slot 2 whole, 0 continuation, 1 handler, 9 unbound.
+def kinds(v, value=()):
+    raising = handle(1, *value)
+    return (
+        duplicate(3, v) + resume(0, 2), difference(3, v, 2) + resume(0, 2), difference(3, 2, v) + resume(0, 2),
+        difference_or_raise(3, v, 2, raising, raising), difference_or_raise(3, 2, v, raising, raising),
+        difference_or_raise(3, 2, 2, handle(v, *value), raising),
+        branch(v, 2, raising, raising), branch(2, v, raising, raising), resume(v, 2), resume(0, v), handle(v, *value), jump(0, v, 1, [2]),
+        jump(0, 0, v, [2]), jump(0, 0, 1, [v]))
+
+
 for v in (2, 0, 1, 9):
-    for body in (
-            duplicate(3, v) + resume(0, 2), difference(3, v, 2) + resume(0, 2), difference(3, 2, v) + resume(0, 2),
-            difference_or_raise(3, v, 2, raising, raising), difference_or_raise(3, 2, v, raising, raising),
-            difference_or_raise(3, 2, 2, handle(v), raising),
-            branch(v, 2, raising, raising), branch(2, v, raising, raising), resume(v, 2), resume(0, v), handle(v), jump(0, v, 1, [2]),
-            jump(0, 0, v, [2]), jump(0, 0, 1, [v])):
+    for body in kinds(v):
         add_body(body)
 
 # Several faults in one node: the first in reading order is told; at one byte 13 first.
@@ -212,7 +224,18 @@ for file, told in long_vectors("SPC"):
     agree(file[:6].hex(), told, answer(file))
     add(file)
 
-# Damaged files: one byte of a rich file at a time.
+
+# Damaged files: one byte of a rich file at a time; `above` is the first slot that is not there.
+def add_damaged(file, above):
+    add(file)
+    for i in range(len(file)):
+        for v in (0, above, file[i] ^ 1, 255):
+            add(file[:i] + bytes([v]) + file[i + 1:])
+        add(file[:i])
+        add(file[:i] + file[i + 1:])
+        add(file[:i] + bytes([source.randrange(256)]) + file[i:])
+
+
 guarded = both(7, 8, 9, jump(1, 7, 9, [2, 3]), branch(2, 3, jump(0, 0, 1, [4, 5]), raising), resume(0, 8))
 rich = target(
     function(2, constant(4, -2147483648) + duplicate(5, 2) + difference(6, 4, 5) + guarded),
@@ -220,14 +243,46 @@ rich = target(
 raises = target(
     function(2, difference_or_raise(4, 2, 3, difference_or_raise(2, 3, 2, jump(0, 0, 1, [3, 2]), raising), duplicate(5, 4) + resume(0, 5))))
 source = random.Random(7)
-for file in (rich, raises):
+add_damaged(rich, 36)
+add_damaged(raises, 36)
+
+# Slip 7: the vectors; other versions than 1 and 2.
+for file, *fields in vectors("slip-7/target.txt"):
     add(file)
-    for i in range(len(file)):
-        for v in (0, 36, file[i] ^ 1, 255):
-            add(file[:i] + bytes([v]) + file[i + 1:])
-        add(file[:i])
-        add(file[:i] + file[i + 1:])
-        add(file[:i] + bytes([source.randrange(256)]) + file[i:])
+    agree(file.hex(), fields[0] if len(fields) == 1 else "accepted", answer(file))
+for version in (0, 1, 2, 3, 258):
+    for body in (handle(1), handle(1, 2)):
+        add_body(body, version=version)
+# Version 2: slots 36 and 37 in each place, the value of tag 6 and the parameter of tag 9 among them; each kind where each other is needed.
+raising = handle(1, 2)
+for x in (36, 37, 255):
+    for body in (
+            *places(x, 36, [2], [7]), constant(36, 1) + handle(1, x), both(3, 4, 5, raising, raising, raising, number=[x]),
+            both(3, 4, 5, raising, handle(1, x), raising, number=[x])):
+        add_body(body, version=2)
+for v in (2, 0, 1, 9):
+    for body in (*kinds(v, [2]), handle(1, v), handle(v, v), difference_or_raise(3, 2, 2, handle(1, v), raising)):
+        add_body(body, version=2)
+# The parameter is whole in the handler's body only, whatever its slot was before; names in reading order, equal slots at the handler slot.
+for slots in (
+        (5, 3, 6, 7), (5, 3, 6, 3), (5, 3, 6, 5), (5, 3, 6, 6), (5, 3, 6, 0), (5, 3, 6, 1), (5, 3, 6, 2), (5, 3, 5, 7), (5, 3, 5, 37), (5, 37, 5, 37),
+        (37, 3, 37, 37), (5, 3, 37, 37), (5, 3, 3, 3), (1, 3, 0, 7)):
+    own, parameter, handler, number = slots
+    for rest, caught, body in (
+            (raising, handle(1, number), raising), (handle(1, number), raising, raising), (raising, raising, handle(1, number)),
+            (handle(handler, 2), handle(handler, number), raising), (resume(own, 2), resume(0, number), resume(0, parameter)),
+            (raising, resume(0, parameter), resume(own, parameter))):
+        add_body(both(own, parameter, handler, rest, caught, body, number=[number]), version=2)
+# Lengths one too small and one too large; levels 16 and 17.
+for d in (-1, 1):
+    for lengths in ({"length": 3 + d}, {"handled": 3 + d}, {"length": 3 + d, "handled": 3 + d}):
+        add_body(both(5, 3, 6, raising, raising, raising, number=[7], **lengths), version=2)
+for kind in (
+        lambda part: both(5, 3, 6, part, raising, raising, number=[7]), lambda part: both(5, 3, 6, raising, part, raising, number=[7]),
+        lambda part: difference_or_raise(5, 2, 2, part, raising)):
+    for levels in (16, 17):
+        add_body(nest(kind, levels, raising), version=2)
+add_damaged(target(function(1, both(7, 8, 9, raising, constant(36, 7) + handle(1, 36), handle(1, 8), number=[36])), version=2), 37)
 
 write("target_cases", (little(len(s), 3) + s for s in cases), (answer(s) + "\n" for s in cases))
 print(len(cases), Counter(answer(s).split(" at")[0] for s in cases))

@@ -1,10 +1,11 @@
 #!/usr/bin/env python3
 """Writes the cases of crates/translator_cases and the answers expected: run in the repository's root. Needs
-translation.txt of ../shared/vectors and of its folder slip-2.
+translation.txt of ../shared/vectors and of its folders slip-2 and slip-7.
 
 The answers come from tools/procedure.py. Where a vector gives the translation, the model must give the same.
 """
-from procedure import LIMIT, Function, T, call, difference, differs, duplicate, goto, throw, translation, written
+from procedure import LIMIT, Function, T, call, difference, differs, duplicate, goto, throw, throw_value, translation, written
+from raises import RAISES, T_2
 from records import Refused, agree, little, vectors, write
 
 cases = []
@@ -14,23 +15,30 @@ def add(file, room):
     cases.append((file, room))
 
 
-for name in ("translation.txt", "slip-2/translation.txt"):
+def add_vectors(name):
     for file, given in vectors(name):
         made = translation(file).hex()
         if name != "translation.txt" or not differs(file):
             agree(file.hex(), given, made)
         add(file, len(made) // 2)
 
+
+add_vectors("translation.txt")
+add_vectors("slip-2/translation.txt")
+
 # Room for the translation of T exactly, one byte too few, none, and more: what stands behind the translation is kept.
 for room in (106, 105, 0, 300):
     add(T, room)
 
 
-# A file whose translation has so many bytes: a block of calls, which grow most, filled up by copies and differences.
-def filled(length):
+# A file whose translation has so many bytes: a block of calls, which grow most, filled up by copies and differences. With a receiver it is of
+# version 2.
+def filled(length, *receiver):
+    calls, last, version = (1230, throw_value(3), 2) if receiver else (1255, throw, 1)
+
     def made(copies, differences):
-        block = [call(0, 1, [])] * 1255 + [duplicate(0, 1)] * copies + [difference(0, 1, 2)] * differences + [throw]
-        return written(Function(8, 24, [goto(1)], (1, block)), Function(0, 0, [throw]))
+        block = [call(0, 1, [])] * calls + [duplicate(0, 1)] * copies + [difference(0, 1, 2)] * differences + [last]
+        return written(Function(8, 24, [goto(1)], (1, *receiver, block)), Function(0, 0, [throw]), version=version)
 
     none, one = (len(translation(made(0, n))) for n in (0, 1))
     differences = next(n for n in range(length) if (length - none - (one - none) * n) % 3 == 0)
@@ -49,6 +57,17 @@ for file in (T[:-1], T + b"\0", T[:11] + b"\3" + T[12:]):
     add(file, 200)
 add(bytes(LIMIT + 1), 20)
 add(T.ljust(LIMIT + 1, b"\0"), 20)
+
+# Slip 7: the vectors; procedures that raise numbers; room and length in version 2, and files that are refused.
+add_vectors("slip-7/translation.txt")
+for file, _ in RAISES:
+    add(file, len(translation(file)))
+for room in (113, 300):
+    add(T_2, room)
+for length in (65535, 65536):
+    add(filled(length, 2), 10)
+for file in (T_2[:-1], T_2 + b"\0", T_2[:12] + b"\2" + T_2[13:], written(Function(1, 0, [throw_value(0)])), T[:3] + b"\3" + T[4:]):
+    add(file, 20)
 
 # One output, of 65,536 bytes, of which each case lends the front.
 out = bytearray(65536)

@@ -22,9 +22,10 @@ use casts::byte_number;
 use casts::pair;
 use casts::word;
 use parsing::Checked;
+use parsing::version_of;
 
-// The line of a record: of each waiting frame its four numbers.
-fn print_answer(a: Answer, words: &[i32], depth: usize) {
+// The line of a record, by the version of its file: of each waiting frame its four numbers.
+fn print_answer(a: Answer, version: u8, words: &[i32], depth: usize) {
     let verdict = a.verdict;
     match verdict {
         Checked::Refused(r) => {
@@ -33,7 +34,7 @@ fn print_answer(a: Answer, words: &[i32], depth: usize) {
         Checked::Accepted => {
             let regs = a.regs;
             let stopped = a.stopped;
-            let waiting = print_stop(stopped, regs.waiting);
+            let waiting = print_stop(stopped, version, regs.waiting);
             numbered(b" steps", a.steps);
             numbered(b" extras", a.extras);
             say(b" frames");
@@ -51,7 +52,7 @@ fn run_on(given: &[u8], file: &[u8], start: usize, depth: usize, budget: u32, de
     let words: &mut [i32] = &mut space;
     let many = lent(words, depth, delta);
     let a = run(file, start, &args[..n], depth, budget, &mut words[..many]);
-    print_answer(a, words, depth);
+    print_answer(a, version_of(file), words, depth);
 }
 
 // The input of a record.

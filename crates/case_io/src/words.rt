@@ -13,27 +13,30 @@ use runs::in_use;
 ghost use Rattle.runs.specs.Stopped.{stoppedAs, inUse};
 ghost use mathlib.Core.Path.{_≡_};
 
-// How a run ended.
-fn print_end(e: End) {
+// How a run of a file of that version ended: uncaught, the number raised is told for version 2 (document 02, Slip 7).
+fn print_end(e: End, version: u8) {
     match e {
         End::Value(z) => {
             say(b"value");
             value(z);
         }
-        End::Uncaught => {
+        End::Uncaught(z) => {
             say(b"uncaught");
+            if version == 2 {
+                value(z);
+            }
         }
     }
 }
 
-// How a run stopped; the answer is how many of n frames are then in use.
-pub fn print_stop(stopped: Stopped, n: usize) -> usize
+// How a run of a file of that version stopped; the answer is how many of n frames are then in use.
+pub fn print_stop(stopped: Stopped, version: u8, n: usize) -> usize
     ensures { λ r. ⌜ r ≡ inUse (stoppedAs stopped) n ⌝ }
 {
     let used = in_use(stopped, n);
     match stopped {
         Stopped::Ended(e) => {
-            print_end(e);
+            print_end(e, version);
         }
         Stopped::Spent => {
             say(b"spent");

@@ -35,7 +35,7 @@ fn verdict_of(b: u8) -> Checked {
 fn stopped_of(b: u8) -> Stopped {
     match b {
         0 => Stopped::Ended(End::Value(5)),
-        1 => Stopped::Ended(End::Uncaught),
+        1 => Stopped::Ended(End::Uncaught(7)),
         2 => Stopped::Spent,
         _ => Stopped::Deep,
     }

@@ -22,9 +22,10 @@ use casts::word;
 use controller::machine::Answer;
 use controller::machine::run;
 use parsing::Checked;
+use parsing::version_of;
 
-// The line of a record of the input: of each record in use its first word, the place of its tag.
-fn print_answer(a: Answer, words: &[i32], depth: usize) {
+// The line of a record of the input, by the version of its file: of each record in use its first word, the place of its tag.
+fn print_answer(a: Answer, version: u8, words: &[i32], depth: usize) {
     let verdict = a.verdict;
     match verdict {
         Checked::Refused(r) => {
@@ -33,7 +34,7 @@ fn print_answer(a: Answer, words: &[i32], depth: usize) {
         Checked::Accepted => {
             let regs = a.regs;
             let stopped = a.stopped;
-            let records = print_stop(stopped, regs.records);
+            let records = print_stop(stopped, version, regs.records);
             numbered(b" steps", a.steps);
             say(b" records");
             print_frames(words, records, 1);
@@ -50,7 +51,7 @@ fn run_on(given: &[u8], file: &[u8], start: usize, depth: usize, budget: u64, de
     let words: &mut [i32] = &mut space;
     let many = lent(words, depth, delta);
     let a = run(file, start, &args[..n], depth, budget, &mut words[..many]);
-    print_answer(a, words, depth);
+    print_answer(a, version_of(file), words, depth);
 }
 
 // One record; false at the end of the input.
