@@ -77,9 +77,9 @@ raised P f zero n vs fs = unwound P n fs
 raised P f (suc l) n vs fs = enterByRaise P f (suc l) n vs fs
 
 -- The number that operation 8 or 9 raises: 0, or the variable's value.
-abbrev pub numberOf : List ℤ → Option Variable → Option ℤ
-numberOf vs none = some (pos 0)
-numberOf vs (some y) = getElem? vs y
+abbrev pub numberRaised : List ℤ → Option Variable → Option ℤ
+numberRaised vs none = some (pos 0)
+numberRaised vs (some y) = getElem? vs y
 
 -- A function begins at its entry block without a handler, with its arguments and its locals 0.
 abbrev pub begun : FunctionNumber → Function → List ℤ → List Frame → State
@@ -104,7 +104,7 @@ step P d (state f h (goto l) vs fs) = enter P f l vs fs
 step P d (state f h (return x) vs fs) = given (getElem? vs x) (λ v. returned v fs)
 step P d (state f h (branch y z l m) vs fs) =
     given (getElem? vs y) (λ v. given (getElem? vs z) (λ w. enter P f (cond (atMost v w) l m) vs fs))
-step P d (state f h (raise r) vs fs) = given (numberOf vs r) (λ n. raised P f h n vs fs)
+step P d (state f h (raise r) vs fs) = given (numberRaised vs r) (λ n. raised P f h n vs fs)
 
 -- The run of the bench from function f (main is 0), under the depth limit d.
 unfoldable pub bench : Program → FunctionNumber → List ℤ → ℕ → ℕ → Result State

@@ -12,7 +12,7 @@ use lib.Seq.{getD-append-add}
 use Rattle.semantics.specs.Value.{inRange, atMost}
 use Rattle.semantics.specs.Program.{FunctionNumber, Variable, Label, Handler, Block, constant, copy, difference, call, goto, return, branch, raise, Labelled, Function, Program, variables, noFunction, functionOf}
 use Rattle.semantics.specs.Run.{Outcome, next, tooDeep, run, total}
-use Rattle.semantics.specs.Bench.{Frame, frame, State, state, given, valuesOf, labelledAt, enter, returned, received, enterByRaise, unwound, raised, numberOf, begun, step, bench}
+use Rattle.semantics.specs.Bench.{Frame, frame, State, state, given, valuesOf, labelledAt, enter, returned, received, enterByRaise, unwound, raised, numberRaised, begun, step, bench}
 use Rattle.semantics.specs.WellFormed.{All, WellFormedBlock, WellFormedLabelled, WellFormedFunction, WellFormed, WellFormedFrame, WellFormedState}
 use Rattle.semantics.specs.Extras.{caught, caughtOutside, one, bindings, raiseExtra, valueOf, extra, extras}
 use Rattle.semantics.specs.Translation.{spareSlot, receiverIn}
@@ -159,7 +159,7 @@ module _ (k : ℕ) (P R : Program) where
   steps d (state f i (return x) vs fs) S = given-same h (getElem? vs x) _ _ (λ v. returns v fs)
   steps d (state f i (branch y z l m) vs fs) S =
       given-same h (getElem? vs y) _ _ (λ v. given-same h (getElem? vs z) _ _ (λ w. enters f (S .running) (cond (atMost v w) l m) vs fs))
-  steps d (state f i (raise r) vs fs) S = given-same h (numberOf vs r) _ _ (λ n. raises f i n (raise r) vs fs S)
+  steps d (state f i (raise r) vs fs) S = given-same h (numberRaised vs r) _ _ (λ n. raises f i n (raise r) vs fs S)
 
   -- The bindings of a raise look at the version, the count of variables and the receivers, which stay.
   binds-same : (f : FunctionNumber) → Stands k P R f → (i : Handler) (r : Option Variable) → bindings (functionOf R (k + f)) i r ≡ bindings (functionOf P f) i r
