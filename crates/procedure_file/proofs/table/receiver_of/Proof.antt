@@ -21,7 +21,8 @@ start-of-requires c κs = search needs
 sub-at : tie.Need-sub-at
 sub-at c =
     let entry = c .before .before .before .before in
-    (start-room (entry .args .file .now) (entry .pre .0 .laid) (entry .args .f) (entry .pre .1 .0) (entry .args .l) _ (entry .pre .1 .2) (c .start-of .ensures)) .0
+    let r = start-room (entry .args .file .now) (entry .pre .0 .laid) (entry .args .f) (entry .pre .1 .0) (entry .args .l) _ (entry .pre .1 .2) (c .start-of .ensures) in
+    omega (arith, r .0)
 
 shared-slice-read-result : tie.Need-shared-slice-read-result
 shared-slice-read-result c =
