@@ -10,6 +10,7 @@ pub mod Controller
 pub mod SlotRules
 pub mod SlotStates
 pub mod Translation
+pub mod SlotCount
 pub mod Extras
 pub mod Matching
 pub mod Statement
@@ -31,4 +32,5 @@ pub mod MergeLaws
 pub mod AlikeLaws
 pub mod SlotStateLaws
 pub mod TranslationRules
+pub mod SlotCountLaws
 pub mod Cases

@@ -9,3 +9,4 @@ pub mod OperationLaws
 pub mod CountLaws
 pub mod PartLaws
 pub mod FunctionLaws
+pub mod SlotsLaws

@@ -1,4 +1,4 @@
-// The size of what operations, blocks and functions of a procedure file become in the translation.
+// The size of what operations, blocks and functions of a procedure file become in the translation, and how many slots it uses.
 use casts::byte_number;
 use procedure_file::table;
 use procedure_layout::layout::After;
@@ -17,7 +17,8 @@ ghost use Rattle.parsing.specs.Fields.{versionOf};
 ghost use Rattle.procedure_file.specs.Loaded.{Loaded};
 ghost use Rattle.procedure_file.specs.Check.{programOf};
 ghost use Rattle.semantics.specs.Program.{variables, functionOf};
-ghost use Rattle.semantics.specs.Translation.{receiverAt, receiverSlot};
+ghost use Rattle.semantics.specs.Translation.{receiverAt, receiverSlot, lastSlot};
+ghost use Rattle.semantics.specs.SlotCount.{larger, slotsUsed};
 ghost use Rattle.translator_bytes.specs.Bytes.{raiseSize, callSize, operationSize};
 ghost use Rattle.translator_sizes.specs.Parts.{slotByte, underOf, fieldsOf, functionBytes};
 ghost use Rattle.translator_sizes.specs.Standing.{OperationStands, CountInRange, BlockSize, LabelSize};
@@ -217,6 +218,44 @@ pub fn function_size(file: &[u8], starts: &[u16; 2048], f: usize) -> usize
         let size = label_size(file, starts, f, l);
         n += size;
         l += 1;
+    }
+    n
+}
+
+// The last slot that function f uses: V+3, the new handler's, and V+4 in version 2.
+fn last_slot(file: &[u8], starts: &[u16; 2048], f: usize) -> usize
+    requires { ⌜ Loaded (now file) (now starts) ⌝ }
+    requires { ⌜ f < length (programOf (now file)) ⌝ }
+    ensures { λ r. ⌜ (r ≡ lastSlot (functionOf (programOf (now (file .entry))) f)) × (r ≤ 36) ⌝ }
+{
+    let own = byte_number(table::params_of(file, starts, f));
+    let others = byte_number(table::locals_of(file, starts, f));
+    let v = own + others;
+    if parsing::version_of(file) == 2 {
+        v + 4
+    } else {
+        v + 3
+    }
+}
+
+// The larger of two numbers.
+fn larger(m: usize, n: usize) -> usize
+    ensures { λ r. ⌜ r ≡ larger m n ⌝ }
+{
+    if m < n { n } else { m }
+}
+
+// How many slots the translation uses.
+pub fn slots_used(file: &[u8], starts: &[u16; 2048]) -> usize
+    requires { ⌜ Loaded (now file) (now starts) ⌝ }
+    ensures { λ r. ⌜ (r ≡ slotsUsed (programOf (now (file .entry)))) × (r ≤ 37) ⌝ }
+{
+    let mut n = 2;
+    let mut i = table::functions_of(file);
+    while 0 < i {
+        i -= 1;
+        let slots = last_slot(file, starts, i) + 1;
+        n = larger(n, slots);
     }
     n
 }
