@@ -7,6 +7,7 @@ use lib.IntN.{ℤ}
 use lib.ListN.{length, take, drop, length-append}
 use lib.Seq.{take-append-seam}
 use Rattle.semantics.specs.Program.{FunctionNumber, functionOf}
+use Rattle.semantics.specs.SlotCount.{UsesSlots, slotsUsed}
 use Rattle.semantics.specs.Run.{Stop, ended, spent, deep, broken, Result, oneMoreIfDeep}
 use Rattle.parsing.specs.declared.Refusal.{Refusal}
 use Rattle.parsing.specs.declared.Checked.{Checked}
@@ -30,10 +31,11 @@ use Rattle.bench.specs.declared.machine.Answer as BenchAnswer
 use Rattle.bench.specs.Published as Bench
 use Rattle.controller.specs.declared.machine.Answer as ControllerAnswer
 use Rattle.controller.specs.Published as Controller
+use Rattle.controller_records.specs.Machine.{SlotsKept}
 use Rattle.agreement.specs.declared.Sides.{Sides}
 use Rattle.agreement.specs.Statement.{entryOf, controllerBudget, Claim}
 use Rattle.agreement.specs.Sides.{callVerdict, sidesVerdict, Told, sidesTold, controllerRun, runsTell, sidesTell, Memory, Ran, SidesMemory, refusedSides, CallFits, MachinesRan}
-use Rattle.agreement.specs.Theorem.{few-steps, ran-alike, stops-match, files-agree}
+use Rattle.agreement.specs.Theorem.{few-steps, translation-slots, ran-alike, stops-match, files-agree}
 
 one-at-most : {S : Type 0} (o : Stop S) → oneMoreIfDeep o ≤ 1
 one-at-most (ended e) = omega arith
@@ -50,6 +52,10 @@ module _ {s : List ℕ} {f : FunctionNumber} {args : List ℤ} {depth : ℕ} {fr
   module _ {target : List ℕ} (it : target ≡ translationOf s) where
     pub target-accepted : Target.checkOf target ≡ accepted
     target-accepted = ap Target.checkOf it ∙ claim .isAccepted
+
+    pub target-kept : {n : ℕ} → (n ≡ slotsUsed (programOf s)) × (n ≤ 37) → SlotsKept target n
+    target-kept {n} c =
+        (subst (λ (t : List ℕ). UsesSlots n (Target.codeOf t)) (sym it) (subst (λ (k : ℕ). UsesSlots k (Target.codeOf (translationOf s))) (sym (c .0)) (translation-slots s (R .bytes) (R .isAccepted))), c .1)
 
     pub controller-fits : {g : ℕ} → g ≡ entryOf s f → Controller.CallFits target g args depth records
     controller-fits {g} ig =

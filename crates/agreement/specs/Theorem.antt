@@ -13,6 +13,8 @@ use Rattle.semantics.specs.Run.{Stop, ended, spent, deep, broken, IsBroken, Res
 use Rattle.semantics.specs.Bench.{State, waiting, bench}
 use Rattle.semantics.specs.Controller.{inUse, controller, targetOf, noTarget, codeVersion}
 use Rattle.semantics.specs.SlotStates.{StateKeeps}
+use Rattle.semantics.specs.SlotCount.{UsesSlots, slotsUsed}
+use Rattle.semantics.specs.SlotCountLaws.{translation-uses, used-above}
 use Rattle.semantics.specs.Translation.{entryTarget, number, translate}
 use Rattle.semantics.specs.Extras.{extras}
 use Rattle.semantics.specs.Statement.{StopsMatch, Agree, Sound}
@@ -216,6 +218,14 @@ files-agree s bytes ok fits f below args la depth =
 
     there : g < length (translate P)
     there = at-below (translate P) g (entryTarget (number P) g (functionOf P f)) (entry-at P f below)
+
+-- The translation of an accepted procedure uses no more slots than are counted.
+pub translation-slots : (s : List ℕ) → Bytes s → Procedure.checkOf s ≡ accepted → UsesSlots (slotsUsed (Procedure.programOf s)) (Target.codeOf (translationOf s))
+unfolding translationOf
+translation-slots s bytes ok =
+    let P = Procedure.programOf s in
+    let h : HasFile P = is-writing s bytes ok .0 in
+    subst (λ (Q : Code). UsesSlots (slotsUsed P) Q) (sym (translation-accepted .readsBack P (source P h))) (translation-uses (slotsUsed P) P (h .wellFormed) (used-above P))
 
 -- ── Demand 1 ────────────────────────────────────────────────────────────────────────────────────
 

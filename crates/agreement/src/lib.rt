@@ -14,6 +14,7 @@ use translator::parts::entry_number;
 use translator::parts::put_file;
 use translator::room_checked;
 use translator::translation_size;
+use translator_sizes::slots_used;
 ghost use mathlib.Core.Path.{_≡_};
 ghost use lib.ListN.{length};
 ghost use Rattle.parsing.specs.Parser.{verdictOf};
@@ -76,7 +77,17 @@ fn run_both(
     let counted = taken + b.extras;
     let steps = counted + more;
     let bodies = table_of(target);
-    let c = controller::machine::run_loaded(target, &bodies, g, arguments, depth, steps, records);
+    let kept = slots_used(file, starts);
+    let c = controller::machine::run_loaded(
+        target,
+        &bodies,
+        kept,
+        g,
+        arguments,
+        depth,
+        steps,
+        records,
+    );
     Sides {
         verdict: Checked::Accepted,
         target: target.len(),

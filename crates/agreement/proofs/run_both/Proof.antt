@@ -1,7 +1,7 @@
 -- `agreement::run_both` meets its contract.
 use mathlib.Core.Path.{refl}
 use native.Mathlib.Omega.{arith}
-use Rattle.agreement.specs.SidesLaws.{target-accepted, controller-fits, sum-small, more-small, machines-ran}
+use Rattle.agreement.specs.SidesLaws.{target-accepted, target-kept, controller-fits, sum-small, more-small, machines-ran}
 use borrow.Author.Needs.{needs}
 use Rattle.agreement.proofs.run_both.Statement.{statement}
 use Rattle.agreement.proofs.run_both.Tie as tie
@@ -40,11 +40,18 @@ table-of-requires c κs = let entry = entry-before-run (run-before-struct-known 
 
 run-loaded-requires-2 : tie.Need-run-loaded-requires-2
 run-loaded-requires-2 c κs =
-    let at-table-of = c .before .before in
+    let at-slots-used = c .before .before in
+    let at-table-of = at-slots-used .before in
     let entry = entry-before-run (run-before-struct-known (at-table-of .before)) in (
       record { passes = target-accepted (entry .pre .1 .0) (entry .pre .1 .1 .0); table = at-table-of .table-of .ensures },
-      controller-fits (entry .pre .1 .0) (entry .pre .1 .1 .0) (entry .pre .1 .1 .1),
+      (
+        controller-fits (entry .pre .1 .0) (entry .pre .1 .1 .0) (entry .pre .1 .1 .1),
+        target-kept (entry .pre .1 .0) (entry .pre .1 .1 .0) (at-slots-used .slots-used .ensures),
+      ),
     )
+
+slots-used-requires : tie.Need-slots-used-requires
+slots-used-requires c κs = search needs
 
 same-length : tie.Need-same-length
 same-length c = search needs
@@ -55,7 +62,7 @@ same-length-2 c = search needs
 returns : tie.Need-returns
 returns c =
     let at-run2 = c .before in
-    let at-struct-known = at-run2 .before .before .before .before in
+    let at-struct-known = at-run2 .before .before .before .before .before in
     let at-run = run-before-struct-known at-struct-known in
     let entry = entry-before-run at-run in
     machines-ran (entry .pre .1 .0) (at-run .run-loaded .ensures) (at-struct-known .before .one-more-if-deep .ensures) (entry .pre .1 .1 .0) (entry .pre .1 .1 .1) refl
@@ -70,6 +77,7 @@ run-both-spec =
     add-counted
     add-steps
     table-of-requires
+    slots-used-requires
     run-loaded-requires-2
     same-length
     same-length-2
