@@ -16,7 +16,7 @@ pub mod Matching
 pub mod Statement
 pub mod Merge
 -- Laws and theorems: Theorem proves Statement, SlotStateLaws and TranslationRules its claims of the controller and the translation;
--- MergeLaws proves Merge, and AlikeLaws carries it over to the controller; Cases is computed.
+-- MergeLaws proves Merge, and AlikeLaws carries it over to the controller; SlotCountLaws is of SlotCount; Cases is computed.
 pub mod ValueLaws
 pub mod ListLaws
 pub mod RunLaws
