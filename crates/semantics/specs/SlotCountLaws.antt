@@ -173,7 +173,7 @@ pub translation-uses : (m : ℕ) (P : Program) → WellFormed P → All (λ F. l
 unfolding translate
 translation-uses m P W a = (rules m P W a, translation-params m (number P) 0 P a)
 
--- The larger of two numbers
+-- The larger of two numbers.
 larger-left : (m n : ℕ) → m ≤ larger m n
 larger-left m n = by (ltb m n) refl
   where
@@ -188,7 +188,7 @@ larger-right m n = by (ltb m n) refl
     by true e = omega arith
     by false e = ltb-false m n e
 
-larger-least : (m n k : ℕ) → m ≤ k → n ≤ k → larger m n ≤ k
+pub larger-least : (m n k : ℕ) → m ≤ k → n ≤ k → larger m n ≤ k
 larger-least m n k l h = by (ltb m n)
   where
     by : (c : Bool) → cond c n m ≤ k

@@ -2,16 +2,15 @@
 use Prim.Native.Nat.{ℕ, suc, _+_, _≤_, _<_}
 use native.Mathlib.Omega.{arith}
 use mathlib.Core.Path.{_≡_, sym, ap, _∙_}
-use mathlib.Core.Bool.{Bool, true, false, cond}
 use mathlib.Core.List.{List}
 use borrow.Author.Tests.{eq-eqb, ne-eqb}
-use lib.Dec.{ltb}
 use lib.ListN.{length, drop}
 use lib.Seq.{drop-cons, drop-length}
 use Rattle.parsing.specs.Fields.{versionOf}
 use Rattle.semantics.specs.Program.{Function, Program, noFunction, variables, functionOf}
 use Rattle.semantics.specs.Translation.{lastSlot}
 use Rattle.semantics.specs.SlotCount.{larger, slotsUsed}
+use Rattle.semantics.specs.SlotCountLaws.{larger-least}
 use Rattle.procedure_file.specs.Check.{programOf}
 use Rattle.procedure_file.specs.FileInvariant.{FileInvariant}
 use Rattle.translator_sizes.specs.UnderLaws.{few}
@@ -29,13 +28,6 @@ module _ {s : List ℕ} (K : FileInvariant s) (f : ℕ) (there : f < length (pro
 
   pub last-handler : (w ≡ 2 → ⊥) → (v + 3 ≡ lastSlot F) × (v + 3 ≤ 36)
   last-handler n = (rw (ne-eqb (F .version) 2 (λ e. n (sym version-as ∙ e))) (omega arith), omega (arith, few K f there))
-
-larger-bound : (m n b : ℕ) → m ≤ b → n ≤ b → larger m n ≤ b
-larger-bound m n b h k = by (ltb m n)
-  where
-    by : (t : Bool) → cond t n m ≤ b
-    by true = k
-    by false = h
 
 -- One function more.
 used-next : (P : Program) (j : ℕ) → j < length P → slotsUsed (drop j P) ≡ larger (slotsUsed (drop (suc j) P)) (suc (lastSlot (functionOf P j)))
@@ -60,7 +52,7 @@ counted-next {s} {i} {j} {n} {k} {m} C ei ek b em =
     let inside : j < length P = omega (arith, C .counterBound) in
     record {
       is = em ∙ (ap (λ (x : ℕ). larger x (k + 1)) a ∙ (ap (larger (slotsUsed (drop (suc j) P))) d ∙ sym (used-next P j inside)));
-      slotBound = rw em (larger-bound n (k + 1) 37 (C .slotBound) (omega arith));
+      slotBound = rw em (larger-least n (k + 1) 37 (C .slotBound) (omega arith));
       counterBound = omega arith;
     }
 
