@@ -113,7 +113,7 @@ module _ {s : List ℕ} (F : FileInvariant s) {limit : ℕ} {r : Regs} {vs words
     pub variable : h .word3 < varsOf s (h .word0)
     pub result : h .word3 < 32
     pub stands : Stands s (h .word0) (h .word2)
-    pub copied : (48 * d + 4 + 32 ≤ length words) × (0 + 32 ≤ length vs) × (32 ≤ 64)
+    pub copied : (48 * d + 4 + 32 ≤ length words) × (0 + 32 ≤ length vs)
     pub depthBound : d < 256
 
   pub frame-safe : {d : ℕ} {h : Head} → d < r .waiting → h ≡ headOf (frameAt d words) → FrameSafe d h
@@ -132,7 +132,7 @@ module _ {s : List ℕ} (F : FileInvariant s) {limit : ℕ} {r : Regs} {vs words
         variable = x;
         result = omega arith;
         stands = rw e (H .frames d l .place);
-        copied = (omega arith, omega arith, omega arith);
+        copied = (omega arith, omega arith);
         depthBound = omega arith;
       }
     where
