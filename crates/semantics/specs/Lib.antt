@@ -15,11 +15,14 @@ pub mod Extras
 pub mod Matching
 pub mod Statement
 pub mod Merge
--- Laws and theorems: Theorem proves Statement, SlotStateLaws and TranslationRules its claims of the controller and the translation;
--- MergeLaws proves Merge, and AlikeLaws carries it over to the controller; SlotCountLaws is of SlotCount; Cases is computed.
+pub mod VersionOne
+-- Laws and theorems: Theorem proves Statement, SlotStateLaws, DroppedLaws and TranslationRules its claims of the controller and the translation;
+-- MergeLaws proves Merge, and AlikeLaws carries it over to the controller; VersionOneLaws proves VersionOne; SlotCountLaws is of SlotCount; Cases is
+-- computed.
 pub mod ValueLaws
 pub mod ListLaws
 pub mod RunLaws
+pub mod KeepLaws
 pub mod SoundLaws
 pub mod TranslationLaws
 pub mod MatchingLaws
@@ -31,6 +34,8 @@ pub mod StopLaws
 pub mod MergeLaws
 pub mod AlikeLaws
 pub mod SlotStateLaws
+pub mod DroppedLaws
 pub mod TranslationRules
 pub mod SlotCountLaws
+pub mod VersionOneLaws
 pub mod Cases

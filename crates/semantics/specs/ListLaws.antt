@@ -40,6 +40,17 @@ module _ {A : Type 0} where
   all-getD Q (x ∷ xs) zero d a h = a .0
   all-getD Q (x ∷ xs) (suc i) d a h = all-getD Q xs i d (a .1) (le-of-suc-le-suc h)
 
+  pub all-look : (Q : A → Type 0) (xs : List A) (i : ℕ) (d : A) → All Q xs → Q d → Q (getD xs i d)
+  all-look Q [] i d a h = h
+  all-look Q (x ∷ xs) zero d a h = a .0
+  all-look Q (x ∷ xs) (suc i) d a h = all-look Q xs i d (a .1) h
+
+  pub all-put : (Q : A → Type 0) (d : A) (xs : List A) (i : ℕ) (x : A) → All Q xs → Q d → Q x → All Q (put d xs i x)
+  all-put Q d [] zero x a h k = (k, tt)
+  all-put Q d [] (suc i) x a h k = (h, all-put Q d [] i x tt h k)
+  all-put Q d (y ∷ xs) zero x a h k = (k, a .1)
+  all-put Q d (y ∷ xs) (suc i) x a h k = (a .0, all-put Q d xs i x (a .1) h k)
+
   pub all-at : (Q : A → Type 0) (xs : List A) (i : ℕ) (x : A) → All Q xs → getElem? xs i ≡ some x → Q x
   all-at Q xs i x a e = subst Q (getD-at xs i x x e) (all-getD Q xs i x a (at-below xs i x e))
 

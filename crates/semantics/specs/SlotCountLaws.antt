@@ -7,7 +7,7 @@ use mathlib.Core.Path.{_≡_, refl, sym, ap, _∙_}
 use mathlib.Core.Bool.{Bool, true, false, cond}
 use mathlib.Core.List.{List, [], _∷_, map}
 use mathlib.Core.Option.{Option, none, some}
-use lib.Dec.{leb, ltb, eqb}
+use lib.Dec.{leb, ltb}
 use borrow.Author.Tests.{ltb-true, ltb-false}
 use lib.IntN.{ℤ, _-ℤ_}
 use lib.ListN.{length, getElem?, drop, length-map}
@@ -20,7 +20,7 @@ use Rattle.semantics.specs.Code.{Slot, letConstant, letSlot, letDifferen
 use Rattle.semantics.specs.Controller.{Binding, unbound, whole, continuation, handler, Environment, bindingAt, put, bind, asWhole, asContinuation, asHandler, wholesOf, numberIn, bindNumber, Record, closure, Control, control, oldest, resumed, resumeWith, handled, handleWith, parameters, noTarget, targetOf, controlStep, started}
 use Rattle.semantics.specs.SlotRules.{MayBind}
 use Rattle.semantics.specs.SlotStates.{StateKeeps}
-use Rattle.semantics.specs.Translation.{slotOf, lastSlot, blockTarget, targets, number, translateFunction, translateFrom, translate}
+use Rattle.semantics.specs.Translation.{usesSpare, slotOf, lastSlot, blockTarget, targets, number, translateFunction, translateFrom, translate}
 use Rattle.semantics.specs.SlotCount.{UsesSlots, RecordsUse, StateUses, larger, slotsUsed}
 use Rattle.semantics.specs.ListLaws.{all-getD, all-every, all-append, all-mapped}
 use Rattle.semantics.specs.TranslationRules.{rules}
@@ -154,7 +154,7 @@ started-uses Q m U g h args q = (length-parameters Q m U g h 0 0 args q, tt)
 -- ── Translations ────────────────────────────────────────────────────────────────────────────────
 
 variables-below : (m : ℕ) (F : Function) → lastSlot F < m → suc (suc (variables F)) ≤ m
-variables-below m F = by (eqb (F .version) 2)
+variables-below m F = by (usesSpare F)
   where
     by : (c : Bool) → cond c (slotOf (suc (suc (variables F)))) (slotOf (suc (variables F))) < m → suc (suc (variables F)) ≤ m
     by true h = omega arith

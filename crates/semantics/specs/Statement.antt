@@ -14,7 +14,7 @@ use Rattle.semantics.specs.WellFormed.{All, WellFormed, WellFormedState}
 use Rattle.semantics.specs.Code.{Slot, resume, handle, MakesRecord, Code}
 use Rattle.semantics.specs.Controller.{continuation, handler, Environment, bindingAt, Record, Control, control, inUse, controlStep, controller, targetOf}
 use Rattle.semantics.specs.SlotRules.{KeepsSlotRules}
-use Rattle.semantics.specs.SlotStates.{StateKeeps}
+use Rattle.semantics.specs.SlotStates.{StateKeeps, LeadsInUse}
 use Rattle.semantics.specs.Translation.{lastSlot, number, translate}
 use Rattle.semantics.specs.Extras.{extras}
 use Rattle.semantics.specs.Matching.{going, holding, HoldingsMatch, Matches}
@@ -73,12 +73,17 @@ abbrev pub ControllerSound : Type 0
 ControllerSound = (m : ℕ) (Q : Code) → KeepsSlotRules m Q → (g : ℕ) → g < length Q
     → (args : List ℤ) → length args ≡ targetOf Q g .params → (d : ℕ) → Sound (StateKeeps Q m) inUse d (controller Q g args d)
 
--- Where a slot leads past the records in use, tags 5 and 6 are stuck: so ControllerSound says too that what is applied is a record in use, never one
--- that was dropped.
+-- "Applying one drops it and all later ones." Where a slot leads past the records in use, tags 5 and 6 are stuck: so ControllerSound says too that
+-- what is applied is a record in use ..
 abbrev pub DroppedStuck : Type 0
 DroppedStuck = (Q : Code) (d n : ℕ) (k y : Slot) (o : Option Slot) (env : Environment) (rs : List Record) → length rs < n
     → (bindingAt env k ≡ continuation n → controlStep Q d (control (resume k y) env rs) ≡ stuck)
     × (bindingAt env k ≡ handler n → controlStep Q d (control (handle k o) env rs) ≡ stuck)
+
+-- .. and it is never one that was dropped, though a later record may have taken its count: in each state that a run reaches, so behind tags 5 and 6 too,
+-- no slot leads past the records left, and the slots of each record lead to earlier ones alone. This holds of any code.
+abbrev pub DroppedForgotten : Type 0
+DroppedForgotten = (Q : Code) (g : ℕ) (args : List ℤ) (d n : ℕ) (c : Control) → holding (controller Q g args d n .stop) ≡ going c → LeadsInUse c
 
 -- The translation of a well-formed program keeps the slot rules, and names only functions that exist, with their argument counts.
 abbrev pub TranslationKeepsRules : Type 0

@@ -2,7 +2,7 @@
 -- the figure drops it), its slots and its order of functions; and document 02's (Slip 2): a difference becomes tag 10, whose raise part "is what a
 -- raise there would become"; Slip 7: the number that a raise carries, in version 2.
 use Prim.Native.Nat.{ℕ, zero, suc, _+_}
-use mathlib.Core.Bool.{cond}
+use mathlib.Core.Bool.{Bool, cond}
 use mathlib.Core.List.{List, [], _∷_, _++_, map}
 use mathlib.Core.Option.{Option, none, some}
 use lib.Dec.{eqb}
@@ -26,12 +26,15 @@ abbrev pub toLabel : ℕ → ℕ → Label → Expr
 toLabel base v l = jump (base + l) 0 1 (slotsFrom (slotOf 0) v)
 
 -- Slot V+4, which version 2 has for a number that no variable receives.
+abbrev pub usesSpare : Function → Bool
+usesSpare F = eqb (F .version) 2
+
 abbrev pub spareSlot : Function → Option Slot
-spareSlot F = cond (eqb (F .version) 2) (some (slotOf (suc (suc (variables F))))) none
+spareSlot F = cond (usesSpare F) (some (slotOf (suc (suc (variables F))))) none
 
 -- The last slot that the code of a function uses: the new handler's V+3, and V+4 in version 2.
 abbrev pub lastSlot : Function → Slot
-lastSlot F = cond (eqb (F .version) 2) (slotOf (suc (suc (variables F)))) (slotOf (suc (variables F)))
+lastSlot F = cond (usesSpare F) (slotOf (suc (suc (variables F)))) (slotOf (suc (variables F)))
 
 -- The receiver of the block with a label.
 abbrev pub receiverIn : Option Labelled → Option Variable

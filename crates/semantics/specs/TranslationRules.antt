@@ -6,14 +6,13 @@ use mathlib.Core.Path.{_≡_, refl, sym, ap, _∙_, subst}
 use mathlib.Core.List.{List, [], _∷_, map}
 use mathlib.Core.Bool.{Bool, true, false, cond}
 use mathlib.Core.Option.{Option, none, some}
-use lib.Dec.{eqb}
 use lib.ListN.{length, getElem?, getD, replicate, length-map, getD-replicate}
 use Rattle.semantics.specs.Program.{FunctionNumber, Variable, Label, Handler, Block, constant, copy, difference, call, goto, return, branch, raise, Labelled, Function, Program, variables, noLabelled, noFunction, functionOf}
 use Rattle.semantics.specs.WellFormed.{All, IsLabel, MayName, WellFormedBlock, WellFormedLabelled, WellFormedFunction, WellFormed}
 use Rattle.semantics.specs.Code.{Slot, Expr, jump, handle, Target}
 use Rattle.semantics.specs.Controller.{put, noTarget}
 use Rattle.semantics.specs.SlotRules.{Kind, unboundKind, wholeKind, continuationKind, handlerKind, Kinds, kindAt, bindKind, IsBound, MayBind, bindNumberKind, KeepsRules, entryKinds, KeepsSlotRules}
-use Rattle.semantics.specs.Translation.{slotOf, slotsFrom, toLabel, spareSlot, lastSlot, receiverAt, receiverSlot, parameterSlot, bindRaised, raiseCode, code, bindZeros, entryTarget, blockTarget, targets, number, translateFunction, translateFrom, translate}
+use Rattle.semantics.specs.Translation.{slotOf, slotsFrom, toLabel, usesSpare, spareSlot, lastSlot, receiverAt, receiverSlot, parameterSlot, bindRaised, raiseCode, code, bindZeros, entryTarget, blockTarget, targets, number, translateFunction, translateFrom, translate}
 use Rattle.semantics.specs.Statement.{TranslationKeepsRules}
 use Rattle.semantics.specs.ListLaws.{at-getD, at-below, getD-at, all-getD, all-append, all-mapped, put-same, put-other}
 use Rattle.semantics.specs.TranslationLaws.{entry-at, block-at}
@@ -114,7 +113,7 @@ module _ (m : ℕ) (P : Program) (W : WellFormed P) (small : All (λ F. lastSlot
     last-room = all-getD (λ (G : Function). lastSlot G < m) P f noFunction small lf
 
     room : slotOf (suc (variables F)) < m
-    room = by (eqb (F .version) 2) last-room
+    room = by (usesSpare F) last-room
       where
         by : (c : Bool) → cond c (slotOf (suc (suc (variables F)))) (slotOf (suc (variables F))) < m → slotOf (suc (variables F)) < m
         by true h = omega arith
@@ -166,7 +165,7 @@ module _ (m : ℕ) (P : Program) (W : WellFormed P) (small : All (λ F. lastSlot
 
     -- A 0 that leaves the function.
     leave-rules : KeepsRules (translate P) m (entryKinds (variables F)) (bindRaised (spareSlot F) none (handle 1 (spareSlot F)))
-    leave-rules = by (eqb (F .version) 2) last-room
+    leave-rules = by (usesSpare F) last-room
       where
         by : (c : Bool) → cond c (slotOf (suc (suc (variables F)))) (slotOf (suc (variables F))) < m
             → let s : Option Slot = cond c (some (slotOf (suc (suc (variables F))))) none in KeepsRules (translate P) m (entryKinds (variables F)) (bindRaised s none (handle 1 s))
@@ -183,7 +182,7 @@ module _ (m : ℕ) (P : Program) (W : WellFormed P) (small : All (λ F. lastSlot
     -- The handler body of tag 9, which sees its parameter.
     handler-rules : (q : Option Variable) → MayName (variables F) q → (l : Label) → IsLabel (length (F .blocks)) l
         → MayBind m (parameterSlot F q) × KeepsRules (translate P) m (bindNumberKind (entryKinds (variables F)) (parameterSlot F q)) (toLabel (number P f) (variables F) l)
-    handler-rules none wq l k = by (eqb (F .version) 2) last-room
+    handler-rules none wq l k = by (usesSpare F) last-room
       where
         by : (c : Bool) → cond c (slotOf (suc (suc (variables F)))) (slotOf (suc (variables F))) < m
             → let s : Option Slot = cond c (some (slotOf (suc (suc (variables F))))) none in
