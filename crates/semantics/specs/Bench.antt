@@ -2,7 +2,7 @@
 -- number that a raise carries.
 -- The figure's two stacks F and E are one list here, newest frame first: a frame keeps its caller's handler, and the frames that have one are E.
 use Prim.Native.Nat.{ℕ, zero, suc}
-use mathlib.Core.Bool.{cond}
+use mathlib.Core.Bool.{Bool, cond}
 use mathlib.Core.List.{List, [], _∷_, _++_}
 use mathlib.Core.Option.{Option, none, some}
 use lib.Dec.{leb}
@@ -86,8 +86,11 @@ abbrev pub begun : FunctionNumber → Function → List ℤ → List Frame → S
 begun f F args fs = state f 0 (F .entry) (args ++ replicate (F .locals) (pos 0)) fs
 
 -- A step that makes a frame, with n waiting, is not taken while the limit is already waiting.
+abbrev pub atLimit : ℕ → ℕ → Bool
+atLimit d n = leb d n
+
 abbrev pub within : {S : Type 0} → ℕ → ℕ → Outcome S → Outcome S
-within d n o = cond (leb d n) tooDeep o
+within d n o = cond (atLimit d n) tooDeep o
 
 -- One step of the bench, under the depth limit d. Each operation is one step. "An out-of-range difference raises, in place, and its target keeps
 -- its value." It raises 0, as operation 8 does.

@@ -6,12 +6,11 @@ use mathlib.Core.Path.{_≡_, refl, sym, ap, _∙_, subst}
 use mathlib.Core.Bool.{Bool, true, false, cond}
 use mathlib.Core.List.{List, [], _∷_, _++_, map}
 use mathlib.Core.Option.{Option, none, some}
-use lib.Dec.{leb}
 use lib.IntN.{ℤ, pos, _-ℤ_}
 use lib.ListN.{length, getElem?, set}
 use Rattle.semantics.specs.Value.{inRange, atMost}
 use Rattle.semantics.specs.Program.{FunctionNumber, Variable, Label, Handler, Block, constant, copy, difference, call, goto, return, branch, raise, Labelled, Function, Program, variables, noFunction, functionOf}
-use Rattle.semantics.specs.Run.{End, value, uncaught, Outcome, next, tooDeep, Result}
+use Rattle.semantics.specs.Run.{End, value, uncaught, Outcome, next, Result}
 use Rattle.semantics.specs.Bench.{Frame, frame, State, state, given, valuesOf, labelledAt, received, enter, returned, enterByRaise, unwound, raised, numberRaised, begun, within, step, bench}
 use Rattle.semantics.specs.WellFormed.{All}
 use Rattle.semantics.specs.Code.{Slot, Expr, letConstant, letSlot, letDifference, jump, resume, handle, ifAtMost, letContinuation, letContinuationWithHandler, letDifferenceOrRaise, Target, Code}
@@ -20,7 +19,7 @@ use Rattle.semantics.specs.Translation.{slotOf, toLabel, spareSlot, rece
 use Rattle.semantics.specs.Extras.{caughtOutside, one, bindings, raiseExtra, valueOf, extra, extras}
 use Rattle.semantics.specs.VersionOne.{BlockOne, FunctionOne, ProgramOne, ExprOne, CodeOne, unwound₁, raised₁, step₁, bench₁, extra₁, extras₁, raiseCode₁, code₁, blockTarget₁, translateFrom₁, translate₁, handled₁, handleWith₁, controlStep₁, controller₁, ReportsZero, VersionOne}
 use Rattle.semantics.specs.ListLaws.{all-at, all-look}
-use Rattle.semantics.specs.KeepLaws.{LeadsTo, StopsIn, run-stops-in, run-same, total-same, leads-given, leads-cond, given-alike}
+use Rattle.semantics.specs.KeepLaws.{LeadsTo, StopsIn, run-stops-in, run-same, total-same, leads-given, leads-cond, leads-within, given-alike}
 use Rattle.semantics.specs.Follow.{oldest-keeps}
 
 -- An end that reports no other number than 0.
@@ -120,7 +119,7 @@ module _ (P : Program) (isOne : ProgramOne P) where
       leads-given StateOne ZeroEnd (getElem? vs y) _ (λ v e. leads-given StateOne ZeroEnd (getElem? vs z) _ (λ w e′.
       leads-cond StateOne ZeroEnd (inRange (v -ℤ w)) _ _ o (raises-kept f h vs fs (o .1))))
   step-kept d (state f h (call x g ys b) vs fs) o =
-      leads-cond StateOne ZeroEnd (leb d (length fs)) tooDeep _ tt
+      leads-within StateOne ZeroEnd d (length fs) _
       (leads-given StateOne ZeroEnd (getElem? P g) _ (λ G e. leads-given StateOne ZeroEnd (valuesOf vs ys) _ (λ args e′. (all-at FunctionOne P g G isOne e .entry, o))))
   step-kept d (state f h (goto l) vs fs) o = enters-kept f l vs fs (o .1)
   step-kept d (state f h (return x) vs fs) o = leads-given StateOne ZeroEnd (getElem? vs x) _ (λ v e. returns-kept v fs (o .1))
@@ -286,9 +285,9 @@ module _ (Q : Code) (isOne : CodeOne Q) (d : ℕ) where
       part true = o .0 .0
       part false = o .0 .1
   control-kept (control (letContinuation x p e k) env rs) o =
-      leads-cond ControlOne ZeroEnd (leb d (length rs)) tooDeep _ tt ((o .0 .0, ((refl, o .0 .1, tt), o .1)))
+      leads-within ControlOne ZeroEnd d (length rs) _ ((o .0 .0, ((refl, o .0 .1, tt), o .1)))
   control-kept (control (letContinuationWithHandler x p t q e h k) env rs) o =
-      leads-cond ControlOne ZeroEnd (leb d (length rs)) tooDeep _ tt ((o .0 .1, ((refl, o .0 .3, o .0 .2), o .1)))
+      leads-within ControlOne ZeroEnd d (length rs) _ ((o .0 .1, ((refl, o .0 .3, o .0 .2), o .1)))
   control-kept (control (letDifferenceOrRaise x y z r e) env rs) o =
       Given (asWhole (bindingAt env y)) _ (λ v q. Given (asWhole (bindingAt env z)) _ (λ w q′. part (inRange (v -ℤ w)) (v -ℤ w)))
     where
