@@ -7,14 +7,14 @@ use mathlib.Core.Path.{_≡_, refl, sym, ap, _∙_}
 use mathlib.Core.Bool.{Bool, true, false, cond}
 use mathlib.Core.List.{List, [], _∷_, map}
 use mathlib.Core.Option.{Option, none, some}
-use lib.Dec.{leb, ltb}
+use lib.Dec.{ltb}
 use borrow.Author.Tests.{ltb-true, ltb-false}
 use lib.IntN.{ℤ, _-ℤ_}
-use lib.ListN.{length, getElem?, drop, length-map}
+use lib.ListN.{length, getElem?, length-map}
 use Rattle.semantics.specs.Value.{minus, inRange}
 use Rattle.semantics.specs.Program.{FunctionNumber, Labelled, Function, Program, variables}
-use Rattle.semantics.specs.Run.{Outcome, next, end, tooDeep, stuck}
-use Rattle.semantics.specs.Bench.{given, before, within}
+use Rattle.semantics.specs.Run.{Outcome}
+use Rattle.semantics.specs.Bench.{before}
 use Rattle.semantics.specs.WellFormed.{All, WellFormed}
 use Rattle.semantics.specs.Code.{Slot, letConstant, letSlot, letDifference, jump, resume, handle, ifAtMost, letContinuation, letContinuationWithHandler, letDifferenceOrRaise, Target, Code}
 use Rattle.semantics.specs.Controller.{Binding, unbound, whole, continuation, handler, Environment, bindingAt, put, bind, asWhole, asContinuation, asHandler, wholesOf, numberIn, bindNumber, Record, closure, Control, control, oldest, resumed, resumeWith, handled, handleWith, parameters, noTarget, targetOf, controlStep, started}
@@ -23,16 +23,15 @@ use Rattle.semantics.specs.SlotStates.{StateKeeps}
 use Rattle.semantics.specs.Translation.{usesSpare, slotOf, lastSlot, blockTarget, targets, number, translateFunction, translateFrom, translate}
 use Rattle.semantics.specs.SlotCount.{UsesSlots, RecordsUse, StateUses, larger, slotsUsed}
 use Rattle.semantics.specs.ListLaws.{all-getD, all-every, all-append, all-mapped}
+use Rattle.semantics.specs.KeepLaws.{LeadsTo, AnyEnd, leads-given, leads-two, leads-within}
+use Rattle.semantics.specs.Follow.{oldest-keeps}
 use Rattle.semantics.specs.TranslationRules.{rules}
 
 -- ── One step ────────────────────────────────────────────────────────────────────────────────────
 
 -- What a step comes to uses slots below m alone.
 abbrev pub UsesAfter : ℕ → Outcome Control → Type 0
-UsesAfter m (next s) = StateUses m s
-UsesAfter m (end e) = Unit {0}
-UsesAfter m tooDeep = Unit {0}
-UsesAfter m stuck = Unit {0}
+UsesAfter m o = LeadsTo (StateUses m) AnyEnd o
 
 length-put : {A : Type 0} (d : A) (m : ℕ) (xs : List A) (i : ℕ) (a : A) → length xs ≤ m → i < m → length (put d xs i a) ≤ m
 length-put d zero xs i a l h = absurd (not-suc-le-zero h)
@@ -68,28 +67,12 @@ length-parameters Q m U g l k h zs q =
     omega arith
 
 module _ (m : ℕ) where
-  -- Where what is read is not there, the step is stuck.
-  given-uses : {A : Type 0} (o : Option A) (rule : A → Outcome Control) → ((a : A) → o ≡ some a → UsesAfter m (rule a)) → UsesAfter m (given o rule)
-  given-uses none rule h = tt
-  given-uses (some a) rule h = h a refl
-
-  given-two-uses : {A B : Type 0} (o : Option A) (p : Option B) (rule : A → B → Outcome Control) → ((a : A) (b : B) → UsesAfter m (rule a b)) → UsesAfter m (given o (λ a. given p (λ b. rule a b)))
-  given-two-uses none p rule h = tt
-  given-two-uses (some a) none rule h = tt
-  given-two-uses (some a) (some b) rule h = h a b
-
   -- A record is applied: it, and those before it, are as they were.
-  records-drop : (i : ℕ) (rs : List Record) → RecordsUse m rs → RecordsUse m (drop i rs)
-  records-drop zero rs u = u
-  records-drop (suc i) [] u = tt
-  records-drop (suc i) (closure env p e h q ∷ rs) u = records-drop i rs (u .3)
-
   pub records-oldest : (n : ℕ) (rs : List Record) → RecordsUse m rs → RecordsUse m (oldest n rs)
-  records-oldest n rs u = by (leb n (length rs))
+  records-oldest n rs u = oldest-keeps (RecordsUse m) tt earlier n rs u
     where
-      by : (c : Bool) → RecordsUse m (cond c (drop (length rs - n) rs) [])
-      by true = records-drop (length rs - n) rs u
-      by false = tt
+      earlier : (r : Record) (us : List Record) → RecordsUse m (r ∷ us) → RecordsUse m us
+      earlier (closure env p e h q) us k = k .3
 
   resumed-uses : (z : ℤ) (rs : List Record) → RecordsUse m rs → UsesAfter m (resumed z rs)
   resumed-uses z [] u = tt
@@ -108,40 +91,31 @@ module _ (m : ℕ) where
   handle-uses zero z rs u = tt
   handle-uses (suc n) z rs u = handled-uses z (oldest (suc n) rs) (records-oldest (suc n) rs u)
 
-  -- With all records in use, tags 8 and 9 make none.
-  within-uses : (d n : ℕ) (s : Control) → StateUses m s → UsesAfter m (within d n (next s))
-  within-uses d n s u = by (leb d n)
-    where
-      by : (c : Bool) → UsesAfter m (cond c tooDeep (next s))
-      by true = tt
-      by false = u
-
 -- A step of code that uses slots below m alone, from a state that does, comes to such a state or to none.
 pub step-uses : (Q : Code) (m : ℕ) → UsesSlots m Q → (d : ℕ) (s : Control) → StateKeeps Q m s → StateUses m s → UsesAfter m (controlStep Q d s)
 unfolding controlStep
 step-uses Q m U d (control (letConstant x i e) env rs) (ks, fit, r, keep) (l, u) = (length-bind m env x (whole i) l (r .0), u)
 step-uses Q m U d (control (letSlot x y e) env rs) (ks, fit, r, keep) (l, u) =
-    given-uses m (asWhole (bindingAt env y)) _ (λ v q. (length-bind m env x (whole v) l (r .0), u))
+    leads-given (StateUses m) AnyEnd (asWhole (bindingAt env y)) _ (λ v q. (length-bind m env x (whole v) l (r .0), u))
 step-uses Q m U d (control (letDifference x y z e) env rs) (ks, fit, r, keep) (l, u) =
-    given-two-uses m (asWhole (bindingAt env y)) (asWhole (bindingAt env z)) _ (λ v w. (length-bind m env x (whole (minus v w)) l (r .0), u))
+    leads-two (StateUses m) AnyEnd (asWhole (bindingAt env y)) (asWhole (bindingAt env z)) _ (λ v w. (length-bind m env x (whole (minus v w)) l (r .0), u))
 step-uses Q m U d (control (jump g k h ss) env rs) (ks, fit, r, keep) (l, u) =
-    given-uses m (getElem? Q g) _ (λ D q. given-two-uses m (asContinuation (bindingAt env k)) (asHandler (bindingAt env h)) _ (λ i j.
-    given-uses m (wholesOf env ss) _ (λ zs e. (length-parameters Q m U g (r .0) i j zs (wholes-length env ss zs e ∙ r .3), u))))
+    leads-given (StateUses m) AnyEnd (getElem? Q g) _ (λ D q. leads-two (StateUses m) AnyEnd (asContinuation (bindingAt env k)) (asHandler (bindingAt env h)) _ (λ i j.
+    leads-given (StateUses m) AnyEnd (wholesOf env ss) _ (λ zs e. (length-parameters Q m U g (r .0) i j zs (wholes-length env ss zs e ∙ r .3), u))))
 step-uses Q m U d (control (resume k y) env rs) (ks, fit, r, keep) (l, u) =
-    given-two-uses m (asContinuation (bindingAt env k)) (asWhole (bindingAt env y)) _ (λ n z. resume-uses m n z rs u)
+    leads-two (StateUses m) AnyEnd (asContinuation (bindingAt env k)) (asWhole (bindingAt env y)) _ (λ n z. resume-uses m n z rs u)
 step-uses Q m U d (control (handle h y) env rs) (ks, fit, r, keep) (l, u) =
-    given-two-uses m (asHandler (bindingAt env h)) (numberIn env y) _ (λ n z. handle-uses m n z rs u)
+    leads-two (StateUses m) AnyEnd (asHandler (bindingAt env h)) (numberIn env y) _ (λ n z. handle-uses m n z rs u)
 step-uses Q m U d (control (ifAtMost y z e₁ e₂) env rs) (ks, fit, r, keep) (l, u) =
-    given-two-uses m (asWhole (bindingAt env y)) (asWhole (bindingAt env z)) _ (λ v w. (l, u))
+    leads-two (StateUses m) AnyEnd (asWhole (bindingAt env y)) (asWhole (bindingAt env z)) _ (λ v w. (l, u))
 step-uses Q m U d (control (letContinuation x p e k) env rs) (ks, fit, r, keep) (l, u) =
-    within-uses m d (length rs) _ (length-bind m env x (continuation (suc (length rs))) l (r .0), (l, r .1, tt, u))
+    leads-within (StateUses m) AnyEnd d (length rs) _ (length-bind m env x (continuation (suc (length rs))) l (r .0), (l, r .1, tt, u))
 step-uses Q m U d (control (letContinuationWithHandler x p t q e h k) env rs) (ks, fit, r, keep) (l, u) =
     let n : ℕ = suc (length rs) in
     let first : length (bind env x (continuation n)) ≤ m = length-bind m env x (continuation n) l (r .0) in
-    within-uses m d (length rs) (control e (bind (bind env x (continuation n)) t (handler n)) (closure env p k (some h) q ∷ rs))
-    (length-bind m (bind env x (continuation n)) t (handler n) first (r .2), (l, r .1, r .4, u))
+    leads-within (StateUses m) AnyEnd d (length rs) _ (length-bind m (bind env x (continuation n)) t (handler n) first (r .2), (l, r .1, r .4, u))
 step-uses Q m U d (control (letDifferenceOrRaise x y z b e) env rs) (ks, fit, r, keep) (l, u) =
-    given-two-uses m (asWhole (bindingAt env y)) (asWhole (bindingAt env z)) _ (λ v w. part (inRange (v -ℤ w)) (v -ℤ w))
+    leads-two (StateUses m) AnyEnd (asWhole (bindingAt env y)) (asWhole (bindingAt env z)) _ (λ v w. part (inRange (v -ℤ w)) (v -ℤ w))
   where
     part : (c : Bool) (i : ℤ) → StateUses m (cond c (control e (bind env x (whole i)) rs) (control b env rs))
     part true i = (length-bind m env x (whole i) l (r .0), u)

@@ -19,7 +19,7 @@ use Rattle.semantics.specs.Translation.{slotOf, toLabel, spareSlot, rece
 use Rattle.semantics.specs.Extras.{caughtOutside, one, bindings, raiseExtra, valueOf, extra, extras}
 use Rattle.semantics.specs.VersionOne.{BlockOne, FunctionOne, ProgramOne, ExprOne, CodeOne, unwound₁, raised₁, step₁, bench₁, extra₁, extras₁, raiseCode₁, code₁, blockTarget₁, translateFrom₁, translate₁, handled₁, handleWith₁, controlStep₁, controller₁, ReportsZero, VersionOne}
 use Rattle.semantics.specs.ListLaws.{all-at, all-look}
-use Rattle.semantics.specs.KeepLaws.{LeadsTo, StopsIn, run-stops-in, run-same, total-same, leads-given, leads-cond, leads-within, given-alike}
+use Rattle.semantics.specs.KeepLaws.{LeadsTo, StopsIn, run-stops-in, run-same, total-same, leads-given, leads-two, leads-cond, leads-within, given-alike}
 use Rattle.semantics.specs.Follow.{oldest-keeps}
 
 -- An end that reports no other number than 0.
@@ -116,15 +116,14 @@ module _ (P : Program) (isOne : ProgramOne P) where
   step-kept d (state f h (constant x i b) vs fs) o = o
   step-kept d (state f h (copy x y b) vs fs) o = leads-given StateOne ZeroEnd (getElem? vs y) _ (λ v e. o)
   step-kept d (state f h (difference x y z b) vs fs) o =
-      leads-given StateOne ZeroEnd (getElem? vs y) _ (λ v e. leads-given StateOne ZeroEnd (getElem? vs z) _ (λ w e′.
-      leads-cond StateOne ZeroEnd (inRange (v -ℤ w)) _ _ o (raises-kept f h vs fs (o .1))))
+      leads-two StateOne ZeroEnd (getElem? vs y) (getElem? vs z) _ (λ v w. leads-cond StateOne ZeroEnd (inRange (v -ℤ w)) _ _ o (raises-kept f h vs fs (o .1)))
   step-kept d (state f h (call x g ys b) vs fs) o =
       leads-within StateOne ZeroEnd d (length fs) _
       (leads-given StateOne ZeroEnd (getElem? P g) _ (λ G e. leads-given StateOne ZeroEnd (valuesOf vs ys) _ (λ args e′. (all-at FunctionOne P g G isOne e .entry, o))))
   step-kept d (state f h (goto l) vs fs) o = enters-kept f l vs fs (o .1)
   step-kept d (state f h (return x) vs fs) o = leads-given StateOne ZeroEnd (getElem? vs x) _ (λ v e. returns-kept v fs (o .1))
   step-kept d (state f h (branch y z l m) vs fs) o =
-      leads-given StateOne ZeroEnd (getElem? vs y) _ (λ v e. leads-given StateOne ZeroEnd (getElem? vs z) _ (λ w e′. enters-kept f (cond (atMost v w) l m) vs fs (o .1)))
+      leads-two StateOne ZeroEnd (getElem? vs y) (getElem? vs z) _ (λ v w. enters-kept f (cond (atMost v w) l m) vs fs (o .1))
   step-kept d (state f h (raise r) vs fs) o = raises-kept f h vs fs (o .1)
 
   -- The extras are the same.
@@ -264,22 +263,19 @@ module _ (Q : Code) (isOne : CodeOne Q) (d : ℕ) where
       ap (λ (r : Option Slot). within d (length rs) (next (control e (bind (bind env x (continuation (suc (length rs)))) t (handler (suc (length rs)))) (closure env p k (some h) r ∷ rs)))) (sym (o .0 .0))
   control-steps (control (letDifferenceOrRaise x y z r e) env rs) o = refl
 
-  Given : {A : Type 0} (o : Option A) (rule : A → Outcome Control) → ((a : A) → o ≡ some a → LeadsTo ControlOne ZeroEnd (rule a)) → LeadsTo ControlOne ZeroEnd (given o rule)
-  Given o rule h = leads-given ControlOne ZeroEnd o rule h
-
   control-kept : (C : Control) → ControlOne C → LeadsTo ControlOne ZeroEnd (controlStep₁ Q d C)
   unfolding controlStep₁
   control-kept (control (letConstant x i e) env rs) o = o
-  control-kept (control (letSlot x y e) env rs) o = Given (asWhole (bindingAt env y)) _ (λ v q. o)
-  control-kept (control (letDifference x y z e) env rs) o = Given (asWhole (bindingAt env y)) _ (λ v q. Given (asWhole (bindingAt env z)) _ (λ w q′. o))
+  control-kept (control (letSlot x y e) env rs) o = leads-given ControlOne ZeroEnd (asWhole (bindingAt env y)) _ (λ v q. o)
+  control-kept (control (letDifference x y z e) env rs) o = leads-two ControlOne ZeroEnd (asWhole (bindingAt env y)) (asWhole (bindingAt env z)) _ (λ v w. o)
   control-kept (control (jump g k h ss) env rs) o =
-      Given (getElem? Q g) _ (λ D q. Given (asContinuation (bindingAt env k)) _ (λ m u. Given (asHandler (bindingAt env h)) _ (λ n v.
-      Given (wholesOf env ss) _ (λ zs w. (all-at (λ (D′ : Target). ExprOne (D′ .body)) Q g D isOne q, o .1)))))
+      leads-given ControlOne ZeroEnd (getElem? Q g) _ (λ D q. leads-two ControlOne ZeroEnd (asContinuation (bindingAt env k)) (asHandler (bindingAt env h)) _ (λ m n.
+      leads-given ControlOne ZeroEnd (wholesOf env ss) _ (λ zs e. (all-at (λ (D′ : Target). ExprOne (D′ .body)) Q g D isOne q, o .1))))
   control-kept (control (resume k y) env rs) o =
-      Given (asContinuation (bindingAt env k)) _ (λ n q. Given (asWhole (bindingAt env y)) _ (λ v q′. resumes-kept n v rs (o .1)))
-  control-kept (control (handle h y) env rs) o = Given (asHandler (bindingAt env h)) _ (λ n q. handles-kept n rs (o .1))
+      leads-two ControlOne ZeroEnd (asContinuation (bindingAt env k)) (asWhole (bindingAt env y)) _ (λ n v. resumes-kept n v rs (o .1))
+  control-kept (control (handle h y) env rs) o = leads-given ControlOne ZeroEnd (asHandler (bindingAt env h)) _ (λ n q. handles-kept n rs (o .1))
   control-kept (control (ifAtMost y z e₁ e₂) env rs) o =
-      Given (asWhole (bindingAt env y)) _ (λ v q. Given (asWhole (bindingAt env z)) _ (λ w q′. (part (atMost v w), o .1)))
+      leads-two ControlOne ZeroEnd (asWhole (bindingAt env y)) (asWhole (bindingAt env z)) _ (λ v w. (part (atMost v w), o .1))
     where
       part : (c : Bool) → ExprOne (cond c e₁ e₂)
       part true = o .0 .0
@@ -289,7 +285,7 @@ module _ (Q : Code) (isOne : CodeOne Q) (d : ℕ) where
   control-kept (control (letContinuationWithHandler x p t q e h k) env rs) o =
       leads-within ControlOne ZeroEnd d (length rs) _ ((o .0 .1, ((refl, o .0 .3, o .0 .2), o .1)))
   control-kept (control (letDifferenceOrRaise x y z r e) env rs) o =
-      Given (asWhole (bindingAt env y)) _ (λ v q. Given (asWhole (bindingAt env z)) _ (λ w q′. part (inRange (v -ℤ w)) (v -ℤ w)))
+      leads-two ControlOne ZeroEnd (asWhole (bindingAt env y)) (asWhole (bindingAt env z)) _ (λ v w. part (inRange (v -ℤ w)) (v -ℤ w))
     where
       part : (c : Bool) (i : ℤ) → ControlOne (cond c (control e (bind env x (whole i)) rs) (control r env rs))
       part true i = (o .0 .1, o .1)
