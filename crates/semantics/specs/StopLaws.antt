@@ -107,15 +107,17 @@ raise-bound P f h r fs =
     let o : caughtOutside h fs ≤ 1 = outside-bound h fs in
     omega arith
 
+choice-bound : (c : Bool) {n m : ℕ} → n ≤ m → cond c 0 n ≤ m
+choice-bound true h = omega arith
+choice-bound false h = h
+
 module _ (P : Program) (m : ℕ) (two : 2 ≤ m) (localsBound : (g : ℕ) → functionOf P g .locals ≤ m) where
   pub extra-bound : (S : State) → extra P S ≤ suc m
   extra-bound (state f h (constant x i b) vs fs) = omega arith
   extra-bound (state f h (copy x y b) vs fs) = omega arith
-  extra-bound (state f h (difference x y z b) vs fs) = by (inRange (valueOf vs y -ℤ valueOf vs z))
-    where
-      by : (c : Bool) → cond c 0 (suc (raiseExtra P f h none fs)) ≤ suc m
-      by true = omega arith
-      by false = let l : raiseExtra P f h none fs ≤ 2 = raise-bound P f h none fs in omega arith
+  extra-bound (state f h (difference x y z b) vs fs) =
+      let l : raiseExtra P f h none fs ≤ 2 = raise-bound P f h none fs in
+      choice-bound (inRange (valueOf vs y -ℤ valueOf vs z)) (omega arith)
   extra-bound (state f h (call x g ys b) vs fs) = let l : functionOf P g .locals ≤ m = localsBound g in omega arith
   extra-bound (state f h (goto l) vs fs) = omega arith
   extra-bound (state f h (return x) vs fs) = omega arith
