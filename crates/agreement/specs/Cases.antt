@@ -126,18 +126,63 @@ receivesMisfit =
     2 ∷ 255 ∷ 3 ∷ 0 ∷ 0 ∷ 1 ∷ 6 ∷ 0 ∷
     0 ∷ 1 ∷ 6 ∷ 1 ∷ []
 
+-- Slip 7, the slots behind the variables. Main, one argument: a block, label 1, whose handler, label 2, receives nothing, calls function 1, which raises;
+-- label 2 makes the argument the difference of itself and itself, and raises it.
+abbrev pub receivesNothing : List ℕ
+receivesNothing =
+    0x53 ∷ 0x50 ∷ 0x46 ∷ 2 ∷ 0 ∷ 2 ∷
+    1 ∷ 0 ∷ 2 ∷
+    5 ∷ 1 ∷
+    2 ∷ 255 ∷ 4 ∷ 0 ∷ 1 ∷ 1 ∷ 0 ∷ 6 ∷ 0 ∷
+    0 ∷ 255 ∷ 3 ∷ 0 ∷ 0 ∷ 0 ∷ 9 ∷ 0 ∷
+    1 ∷ 0 ∷ 0 ∷
+    8 ∷ []
+
+-- Its translation, a function a line group: V is 1, so the new continuation is in slot 3, the new handler in 4, and V+4 is 5.
+abbrev pub receivesNothingTranslated : List ℕ
+receivesNothingTranslated =
+    0x53 ∷ 0x50 ∷ 0x43 ∷ 2 ∷ 0 ∷ 4 ∷ 0 ∷
+    1 ∷ 7 ∷ 0 ∷ 4 ∷ 1 ∷ 0 ∷ 0 ∷ 1 ∷ 1 ∷ 2 ∷
+    1 ∷ 26 ∷ 0 ∷ 9 ∷ 3 ∷ 2 ∷ 4 ∷ 5 ∷
+    7 ∷ 0 ∷ 4 ∷ 3 ∷ 0 ∷ 3 ∷ 4 ∷ 1 ∷ 2 ∷
+    7 ∷ 0 ∷ 4 ∷ 2 ∷ 0 ∷ 0 ∷ 1 ∷ 1 ∷ 2 ∷
+    5 ∷ 0 ∷ 2 ∷
+    1 ∷ 18 ∷ 0 ∷ 10 ∷ 2 ∷ 2 ∷ 2 ∷
+    9 ∷ 0 ∷ 1 ∷ 5 ∷ 0 ∷ 0 ∷ 0 ∷ 0 ∷ 6 ∷ 1 ∷ 5 ∷
+    6 ∷ 1 ∷ 2 ∷
+    1 ∷ 9 ∷ 0 ∷ 1 ∷ 5 ∷ 0 ∷ 0 ∷ 0 ∷ 0 ∷ 6 ∷ 1 ∷ 5 ∷ []
+
+-- The translation of T: main's entry and its two blocks, then those of function 1. V is 2, so the new continuation is in slot 4, the new handler in 5.
+abbrev pub fileTTranslated : List ℕ
+fileTTranslated =
+    0x53 ∷ 0x50 ∷ 0x43 ∷ 1 ∷ 0 ∷ 6 ∷ 0 ∷
+    1 ∷ 14 ∷ 0 ∷ 1 ∷ 3 ∷ 0 ∷ 0 ∷ 0 ∷ 0 ∷ 4 ∷ 1 ∷ 0 ∷ 0 ∷ 1 ∷ 2 ∷ 2 ∷ 3 ∷
+    2 ∷ 26 ∷ 0 ∷ 9 ∷ 4 ∷ 3 ∷ 5 ∷
+    7 ∷ 0 ∷ 4 ∷ 3 ∷ 0 ∷ 4 ∷ 5 ∷ 1 ∷ 2 ∷
+    8 ∷ 0 ∷ 4 ∷ 2 ∷ 0 ∷ 0 ∷ 1 ∷ 2 ∷ 2 ∷ 3 ∷
+    5 ∷ 0 ∷ 3 ∷
+    2 ∷ 9 ∷ 0 ∷ 1 ∷ 3 ∷ 7 ∷ 0 ∷ 0 ∷ 0 ∷ 5 ∷ 0 ∷ 3 ∷
+    1 ∷ 27 ∷ 0 ∷ 1 ∷ 3 ∷ 0 ∷ 0 ∷ 0 ∷ 0 ∷ 7 ∷ 2 ∷ 3 ∷
+    8 ∷ 0 ∷ 4 ∷ 4 ∷ 0 ∷ 0 ∷ 1 ∷ 2 ∷ 2 ∷ 3 ∷
+    4 ∷ 5 ∷ 0 ∷ 0 ∷ 1 ∷ 2 ∷ 2 ∷ 3 ∷
+    2 ∷ 2 ∷ 0 ∷ 6 ∷ 1 ∷
+    2 ∷ 3 ∷ 0 ∷ 5 ∷ 0 ∷ 2 ∷ []
+
 -- A row of the table.
 pub data Row : Type 0 where
   -- A file, and the checker's answer.
   checks : List ℕ → Verdict → Row
   -- A file and one byte, whatever byte it is, and the checker's answer.
   checksWithOneMore : List ℕ → Verdict → Row
+  -- A file, and the bytes of its translation.
+  translates : List ℕ → List ℕ → Row
   -- File, arguments, depth, budget; the bytes of the translation; how both machines stop; bench steps, extras, controller steps.
   runs : List ℕ → List ℤ → ℕ → ℕ → ℕ → Stop (Unit {0}) → ℕ → ℕ → ℕ → Row
 
 abbrev pub Holds : Row → Type 0
 Holds (checks s v) = checkOf s ≡ v
 Holds (checksWithOneMore s v) = (b : ℕ) → checkOf (s ++ b ∷ []) ≡ v
+Holds (translates s t) = translationOf s ≡ t
 Holds (runs s args depth budget target stop n x m) =
     sidesTell s 0 args depth budget (frameSize * maxDepth) 8192 (frameSize * maxDepth)
     ≡ tells
@@ -175,6 +220,8 @@ table =
     ∷ checks (set receivesItself 16 1) (refused 7 16)
     ∷ checks (set raisesArgument 3 1) (refused 6 9)
     ∷ checks (set raisesArgument 3 3) (refused 2 3)
+    ∷ translates fileT fileTTranslated
+    ∷ translates receivesNothing receivesNothingTranslated
     ∷ []
 
 versionTwo : All Holds (drop 18 table)
@@ -186,7 +233,7 @@ unfolding sidesTell controllerBudget sidesVerdict callVerdict startVerdict argum
     Expressions.expression Parts.pair Parts.levelVerdict Tag.numberWidth Tag.numberSlotAt Tag.tagAt Tag.constantAt Tag.copyAt Tag.differenceAt Tag.jumpAt
     Tag.resumeAt Tag.handleAt Tag.branchAt Tag.continuationAt Tag.continuationWithHandlerAt Tag.differenceOrRaiseAt TagNames.judged inRange atMost
     step bench code translate controlStep controller extras
-versionTwo = (refl, (refl, (refl, (refl, (refl, (refl, (refl, (refl, tt))))))))
+versionTwo = (refl, (refl, (refl, (refl, (refl, (refl, (refl, (refl, (refl, (refl, tt))))))))))
 
 pub cases : All Holds table
 unfolding sidesTell controllerBudget sidesVerdict callVerdict startVerdict argumentsVerdict wordsVerdict roomVerdict translationOf checkOf

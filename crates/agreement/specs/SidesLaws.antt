@@ -18,7 +18,7 @@ use Rattle.parsing.specs.VerdictLaws.{or-accepted}
 use Rattle.memory.specs.Call.{startVerdict, argumentsVerdict, wordsVerdict}
 use Rattle.memory.specs.CallLaws.{fitting-start, fitting-arguments, fitting-words}
 use Rattle.runs.specs.Stopped.{stoppedAs}
-use Rattle.runs.specs.Tells.{tells, tellsBy, toldOf, ChangedBy}
+use Rattle.runs.specs.Tells.{tells, tellsBy, toldOf, ChangedBy, RefusedBy}
 use Rattle.runs.specs.TellsLaws.{answered}
 use Rattle.runs.specs.OutputLaws.{lay-front}
 use Rattle.procedure_file.specs.Check.{checkOf, programOf}
@@ -115,10 +115,11 @@ module _ {s : List ℕ} {f : FunctionNumber} {args : List ℤ} {depth : ℕ} {fr
 
 -- ── The call on a loaded file ───────────────────────────────────────────────────────────────────
 
--- The two promises of the call.
+-- The three promises of the call.
 abbrev pub Answered : List ℕ → FunctionNumber → List ℤ → ℕ → ℕ → Sides → Memory → Memory → Type 0
 Answered s f args depth budget a m m′ =
-    (sidesTold a ≡ sidesTell s f args depth budget (length (m .frames)) (length (m .room)) (length (m .records))) × SidesMemory s f args depth budget a m m′
+    (sidesTold a ≡ sidesTell s f args depth budget (length (m .frames)) (length (m .room)) (length (m .records))) × (SidesMemory s f args depth budget a m m′
+    × RefusedBy refusedSides (sidesVerdict s f (length args) depth (length (m .frames)) (length (m .room)) (length (m .records))) a)
 
 module _ (s : List ℕ) (f : FunctionNumber) (args : List ℤ) (depth budget : ℕ) (m : Memory) where
   abbrev verdict : Verdict
@@ -129,7 +130,7 @@ module _ (s : List ℕ) (f : FunctionNumber) (args : List ℤ) (depth budget : �
   unfolding sidesTell
   refused-so {r} a q e = (
     ap sidesTold q ∙ ap (λ (v : Verdict). tellsBy v (runsTell s f args depth budget)) (sym e),
-    subst (λ (v : Verdict). ChangedBy v (Ran s f args depth budget a m m) m m) (sym e) refl,
+    (subst (λ (v : Verdict). ChangedBy v (Ran s f args depth budget a m m) m m) (sym e) refl, subst (λ (v : Verdict). RefusedBy refusedSides v a) (sym e) q),
   )
 
   pub file-refused : {v : Checked} {r : Refusal} (a : Sides) → verdictOf v ≡ checkOf s → v ≡ Refused r → a ≡ refusedSides r → Answered s f args depth budget a m m
@@ -236,5 +237,8 @@ module _ (s : List ℕ) (f : FunctionNumber) (args : List ℤ) (depth budget : �
           let m′ : Memory = record { frames = frames′; room = room′; records = records′ } in
           let ok : accepted ≡ sidesVerdict s f (length args) depth (length (m .frames)) (length (m .room)) (length (m .records)) = ap verdictOf (sym q) ∙ judged in (
             M .said ∙ ap (λ (u : Verdict). tellsBy u (runsTell s f args depth budget)) ok,
-            subst (λ (u : Verdict). ChangedBy u (Ran s f args depth budget a m m′) m m′) ok (record { translation = room-is; together = M .together }),
+            (
+              subst (λ (u : Verdict). ChangedBy u (Ran s f args depth budget a m m′) m m′) ok (record { translation = room-is; together = M .together }),
+              subst (λ (u : Verdict). RefusedBy refusedSides u a) ok tt,
+            ),
           )

@@ -15,9 +15,10 @@ use Rattle.semantics.specs.Run.{End, ended, deep, IsBroken, Result, oneMoreIfDe
 use Rattle.semantics.specs.Bench.{waiting, bench}
 use Rattle.semantics.specs.WellFormed.{WellFormedState}
 use Rattle.semantics.specs.Controller.{Control, inUse, controller, targetOf, codeVersion}
-use Rattle.semantics.specs.SlotStates.{StateKeeps}
+use Rattle.semantics.specs.SlotStates.{StateKeeps, LeadsInUse}
 use Rattle.semantics.specs.Translation.{number}
 use Rattle.semantics.specs.Extras.{extras}
+use Rattle.semantics.specs.Matching.{going, holding}
 use Rattle.semantics.specs.Statement.{Agree, Sound}
 use Rattle.parsing.specs.Parser.{accepted}
 use Rattle.parsing.specs.Bytes.{Bytes}
@@ -40,6 +41,10 @@ abbrev pub NeverBroken : {A : Type 0} → (A → Result (Unit {0})) → Tells A 
 NeverBroken result (refuses number place) = Unit {0}
 NeverBroken result (tells a) = ¬ IsBroken (result a .stop)
 
+-- A state that the controller reaches on the code of t, at some budget.
+abbrev pub ControllerReaches : List ℕ → ℕ → List ℤ → ℕ → Control → Type 0
+ControllerReaches t g args depth c = (budget : ℕ) × (holding (controller (Target.codeOf t) g args depth budget .stop) ≡ going c)
+
 -- "Each of its steps has a next step or a named end, on bench and controller alike", for every accepted procedure file, also one whose
 -- translation does not fit, and for every accepted translated file, hand-written too; for every start function, every argument list of the
 -- right number, every depth limit and budget. A state of the bench has as many variables as its function, and so has each frame; a state
@@ -53,6 +58,9 @@ pub record FilesMove : Type 0 where
       → (g : ℕ) → g < length (Target.codeOf t) → (args : List ℤ) → length args ≡ targetOf (Target.codeOf t) g .params → (depth : ℕ)
       → Sound (StateKeeps (Target.codeOf t) (slotsIn (codeVersion (Target.codeOf t)))) inUse depth (controller (Target.codeOf t) g args depth)
       × ((budget words : ℕ) → NeverBroken (λ r. r) (Controller.controllerTells t g args depth budget words))
+  -- A record that was dropped is never applied: in no state that the controller reaches does a slot lead past the records in use, nor a slot of a
+  -- record past those before it (`DroppedForgotten` of crate `semantics`).
+  pub dropped : (t : List ℕ) → Bytes t → Target.checkOf t ≡ accepted → (g : ℕ) (args : List ℤ) (depth : ℕ) (c : Control) → ControllerReaches t g args depth c → LeadsInUse c
 
 -- ── Demand 3 ────────────────────────────────────────────────────────────────────────────────────
 
@@ -104,10 +112,12 @@ pub record Claim (s : List ℕ) (f : FunctionNumber) (args : List ℤ) (depth : 
   -- Each step has a next step or a named end, on bench and controller alike.
   pub benchMoves : Sound (WellFormedState (Procedure.programOf s)) waiting depth (bench (Procedure.programOf s) f args depth)
   pub controllerMoves : Sound (StateKeeps (Target.codeOf (translationOf s)) (slotsIn (codeVersion (Target.codeOf (translationOf s))))) inUse depth (translationRun s f args depth)
-  -- Ends, steps and states agree at every budget.
+  -- Ends, steps and states agree at every budget ..
   pub agree : Agree (Procedure.programOf s) (bench (Procedure.programOf s) f args depth) (extras (Procedure.programOf s) f args depth) (translationRun s f args depth)
-  -- So do the answers, for every depth limit to 256 and every budget, "each lent 48 words per frame of the limit or more".
+  -- .. and so do the answers, for every depth limit to 256 and every budget, "each lent 48 words per frame of the limit or more".
   pub answers : depth ≤ maxDepth → (budget frames records : ℕ) → frameSize * depth ≤ frames → frameSize * depth ≤ records → AnswersAgree s f args depth budget frames records
+  -- Extras are at most 24, and 25 for each step that the bench takes: controller time can be booked before a run.
+  pub extrasBound : (budget : ℕ) → extras (Procedure.programOf s) f args depth budget ≤ 24 + 25 * bench (Procedure.programOf s) f args depth budget .steps
 
 -- "a procedure is accepted when none of 1 to 10 applies and its size limit is kept; its translation fits at 65,535 bytes or fewer."
 abbrev pub FilesAgree : Type 0

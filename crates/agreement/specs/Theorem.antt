@@ -22,6 +22,7 @@ use Rattle.semantics.specs.ListLaws.{at-below, getD-at}
 use Rattle.semantics.specs.TranslationLaws.{entry-at}
 use Rattle.semantics.specs.Theorem.{demand3, bench-is-sound}
 use Rattle.semantics.specs.SlotStateLaws.{controller-is-sound}
+use Rattle.semantics.specs.DroppedLaws.{dropped-forgotten}
 use Rattle.semantics.specs.AlikeLaws.{one-more-told}
 use Rattle.semantics.specs.StopLaws.{bench-bound, extras-bound, Together, together, Exactly, exactly, bench-again, controller-left}
 use Rattle.parsing.specs.Parser.{Verdict, accepted, refused}
@@ -109,12 +110,18 @@ locals-bound v [] a g = omega arith
 locals-bound v (F ∷ Fs) a zero = a .0 .locals
 locals-bound v (F ∷ Fs) a (suc g) = locals-bound v Fs (a .1) g
 
+few-extras : (s : List ℕ) → Bytes s → Procedure.checkOf s ≡ accepted → (f : FunctionNumber) (args : List ℤ) (depth budget : ℕ)
+    → extras (Procedure.programOf s) f args depth budget ≤ 24 + 25 * bench (Procedure.programOf s) f args depth budget .steps
+few-extras s bytes ok =
+    let P = Procedure.programOf s in
+    extras-bound P 24 (omega arith) (locals-bound (programVersion P) P (is-writing s bytes ok .0 .inRange .functions))
+
 -- Bench steps and extras together, for a budget of 32 bits.
 pub few-steps : (s : List ℕ) → Bytes s → Procedure.checkOf s ≡ accepted → (f : FunctionNumber) (args : List ℤ) (depth budget : ℕ) → budget < 4294967296
     → bench (Procedure.programOf s) f args depth budget .steps + extras (Procedure.programOf s) f args depth budget < 9223372036854775807
 few-steps s bytes ok f args depth budget h =
     let k = bench-bound (Procedure.programOf s) f args depth budget in
-    let l = extras-bound (Procedure.programOf s) 24 (omega arith) (locals-bound (programVersion (Procedure.programOf s)) (Procedure.programOf s) (is-writing s bytes ok .0 .inRange .functions)) f args depth budget in
+    let l = few-extras s bytes ok f args depth budget in
     omega (arith, k, l)
 
 -- ── From the rules to the answers ───────────────────────────────────────────────────────────────
@@ -186,6 +193,7 @@ module _ (s : List ℕ) (f : FunctionNumber) (args : List ℤ) (depth : ℕ) (ok
         controllerMoves = controllerMoves;
         agree = agree;
         answers = λ d n. answers-agree n bytes d;
+        extrasBound = few-extras s bytes ok f args depth;
       }
 
 pub files-agree : FilesAgree
@@ -249,4 +257,5 @@ files-move =
       controller = λ t bytes ok g below args la depth.
           let S = controller-is-sound (slotsIn (codeVersion (Target.codeOf t))) (Target.codeOf t) (TargetLaws.is-writing t bytes ok .0 .rules) g below args la depth in
           (S, λ budget words. never-broken (λ r. r) (toldOf (controller (Target.codeOf t) g args depth budget)) (told-broken (controller (Target.codeOf t) g args depth budget .stop) (S .moves budget)) (controllerVerdict t g (length args) depth words));
+      dropped = λ t bytes ok g args depth c r. dropped-forgotten (Target.codeOf t) g args depth (r .0) c (r .1);
     }

@@ -18,10 +18,11 @@ use translator_sizes::slots_used;
 ghost use mathlib.Core.Path.{_≡_};
 ghost use lib.ListN.{length};
 ghost use Rattle.parsing.specs.Parser.{verdictOf};
+ghost use Rattle.runs.specs.Tells.{RefusedBy};
 ghost use Rattle.procedure_file.specs.Loaded.{Loaded};
 ghost use Rattle.translator.specs.Translated.{translationOf};
 ghost use Rattle.agreement.specs.Statement.{entryOf};
-ghost use Rattle.agreement.specs.Sides.{callVerdict, sidesTold, sidesTell, SidesMemory, refusedSides, CallFits, MachinesRan};
+ghost use Rattle.agreement.specs.Sides.{callVerdict, sidesVerdict, sidesTold, sidesTell, SidesMemory, refusedSides, CallFits, MachinesRan};
 
 // The answer of the call: the verdict on it; where it is accepted the bytes of the translation and the answers of both machines.
 pub struct Sides {
@@ -123,6 +124,7 @@ pub fn sides_loaded(
     requires { ⌜ Loaded (now file) (now starts) ⌝ }
     ensures tells { λ a. ⌜ sidesTold a ≡ sidesTell (now (file .entry)) f (now (arguments .entry)) depth budget (length (now (frames .entry))) (length (now (room .entry))) (length (now (records .entry))) ⌝ }
     ensures memory { λ a. ⌜ SidesMemory (now (file .entry)) f (now (arguments .entry)) depth budget a (record { frames = now (frames .entry); room = now (room .entry); records = now (records .entry) }) (record { frames = now (frames .exit); room = now (room .exit); records = now (records .exit) }) ⌝ }
+    ensures answer { λ a. ⌜ RefusedBy refusedSides (sidesVerdict (now (file .entry)) f (length (now (arguments .entry))) depth (length (now (frames .entry))) (length (now (room .entry))) (length (now (records .entry)))) a ⌝ }
 {
     let functions = functions_of(file);
     let wanted = wanted_of(file, starts, f);
@@ -174,6 +176,7 @@ pub fn side_by_side(
 ) -> Sides
     ensures tells { λ a. ⌜ sidesTold a ≡ sidesTell (now (file .entry)) f (now (arguments .entry)) depth budget (length (now (frames .entry))) (length (now (room .entry))) (length (now (records .entry))) ⌝ }
     ensures memory { λ a. ⌜ SidesMemory (now (file .entry)) f (now (arguments .entry)) depth budget a (record { frames = now (frames .entry); room = now (room .entry); records = now (records .entry) }) (record { frames = now (frames .exit); room = now (room .exit); records = now (records .exit) }) ⌝ }
+    ensures answer { λ a. ⌜ RefusedBy refusedSides (sidesVerdict (now (file .entry)) f (length (now (arguments .entry))) depth (length (now (frames .entry))) (length (now (room .entry))) (length (now (records .entry)))) a ⌝ }
 {
     let mut starts = [0u16; 2048];
     match load(file, &mut starts) {

@@ -12,7 +12,7 @@ use borrow.Author.Tests.{leb-true, leb-false}
 use lib.IntN.{ℤ, _-ℤ_}
 use Rattle.semantics.specs.Value.{inRange}
 use Rattle.semantics.specs.Program.{FunctionNumber, Variable, Handler, constant, copy, difference, call, goto, return, branch, raise, Function, Program, functionOf}
-use Rattle.semantics.specs.Run.{End, Outcome, next, end, tooDeep, stuck, Stop, ended, spent, deep, broken, IsSpent, IsDeep, IsBroken, Result, told, oneMoreIfDeep, spentIfDeep, after, added, run, total}
+use Rattle.semantics.specs.Run.{End, Outcome, next, end, tooDeep, stuck, Stop, ended, spent, deep, broken, IsSpent, IsDeep, IsBroken, Result, told, oneMoreIfDeep, spentIfDeep, after, taken, added, run, total}
 use Rattle.semantics.specs.Bench.{Frame, frame, State, state, begun, step, bench}
 use Rattle.semantics.specs.Controller.{Control, control, started, controlStep, controller}
 use Rattle.semantics.specs.Code.{Code}
@@ -72,14 +72,18 @@ module _ {S : Type 0} (step : S → Outcome S) (n : ℕ) (s : S) where
 
 -- ── Extras are few ──────────────────────────────────────────────────────────────────────────────
 
+more : (m k a b : ℕ) → a ≤ m → b ≤ m * k → a + b ≤ m * (1 + k)
+more m k a b h i = let q : m * (1 + k) ≡ m * k + m = omega arith in omega arith
+
 module _ {S : Type 0} (step : S → Outcome S) (weight : S → ℕ) (m : ℕ) (light : (s : S) → weight s ≤ m) where
-  pub total-bound : (n : ℕ) (s : S) → total step weight n s ≤ m * n
+  pub total-bound : (n : ℕ) (s : S) → total step weight n s ≤ m * run step n s .steps
   total-bound zero s = omega arith
   total-bound (suc n) s = by (step s) (λ (t : S). total-bound n t)
     where
-      by : (o : Outcome S) → ((t : S) → total step weight n t ≤ m * n) → added (weight s) o (λ (t : S). total step weight n t) ≤ m * suc n
-      by (next t) h = let a : weight s ≤ m = light s in let b : total step weight n t ≤ m * n = h t in let q : m * suc n ≡ m * n + m = omega arith in omega arith
-      by (end e) h = let a : weight s ≤ m = light s in let q : m * suc n ≡ m * n + m = omega arith in omega arith
+      by : (o : Outcome S) → ((t : S) → total step weight n t ≤ m * run step n t .steps)
+          → added (weight s) o (λ (t : S). total step weight n t) ≤ m * taken o s (λ (t : S). run step n t) .steps
+      by (next t) h = let a : weight s ≤ m = light s in let b : total step weight n t ≤ m * run step n t .steps = h t in more m (run step n t .steps) (weight s) (total step weight n t) a b
+      by (end e) h = let a : weight s ≤ m = light s in omega arith
       by tooDeep h = omega arith
       by stuck h = omega arith
 
@@ -124,11 +128,11 @@ module _ (P : Program) (m : ℕ) (two : 2 ≤ m) (localsBound : (g : ℕ) → fu
   extra-bound (state f h (branch y z l m) vs fs) = omega arith
   extra-bound (state f h (raise r) vs fs) = let l : raiseExtra P f h r fs ≤ 2 = raise-bound P f h r fs in omega arith
 
-  pub extras-bound : (f : ℕ) (args : List ℤ) (d n : ℕ) → extras P f args d n ≤ m + suc m * n
-  unfolding extras
+  pub extras-bound : (f : ℕ) (args : List ℤ) (d n : ℕ) → extras P f args d n ≤ m + suc m * bench P f args d n .steps
+  unfolding bench extras
   extras-bound f args d n =
       let l : functionOf P f .locals ≤ m = localsBound f in
-      let t : total (step P d) (extra P) n (begun f (functionOf P f) args []) ≤ suc m * n = total-bound (step P d) (extra P) (suc m) extra-bound n (begun f (functionOf P f) args []) in
+      let t : total (step P d) (extra P) n (begun f (functionOf P f) args []) ≤ suc m * run (step P d) n (begun f (functionOf P f) args []) .steps = total-bound (step P d) (extra P) (suc m) extra-bound n (begun f (functionOf P f) args []) in
       omega arith
 
 pub bench-bound : (P : Program) (f : ℕ) (args : List ℤ) (d n : ℕ) → bench P f args d n .steps ≤ n
