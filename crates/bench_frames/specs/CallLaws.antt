@@ -13,7 +13,6 @@ use lib.Seq.{take-length}
 use Rattle.semantics.specs.Program.{Block, variables, noFunction}
 use Rattle.semantics.specs.Run.{next, tooDeep}
 use Rattle.semantics.specs.Bench.{Frame, frame, state, begun, step}
-use Rattle.semantics.specs.Bench as Rules
 use Rattle.semantics.specs.WellFormed.{All}
 use Rattle.semantics.specs.ListLaws.{at-getD}
 use Rattle.semantics.specs.SlotLaws.{values-are}

@@ -5,12 +5,6 @@ use lib.Seq.{length-take-le}
 use borrow.Author.Needs.{needs}
 use Rattle.both.proofs.main.Statement.{statement}
 use Rattle.both.proofs.main.Tie as tie
-use Rattle.both.proofs.main.Reads as reads
-use Rattle.both.proofs.main.Lts as lts
-use Rattle.io.proofs.buffer.Reads as buffer-reads
-use Rattle.io.proofs.read_full.Reads as read-full-reads
-use Rattle.io.proofs.write_all.Reads as write-all-reads
-use Rattle.report.proofs.report.Reads as report-reads
 
 buffer-requires : tie.Need-buffer-requires
 buffer-requires c κs = search needs

@@ -3,8 +3,6 @@ use borrow.Author.Needs.{needs}
 use lib.ListN.{List·getD-eq-default}
 use Rattle.parsing.proofs.version_of.Statement.{statement}
 use Rattle.parsing.proofs.version_of.Tie as tie
-use Rattle.parsing.proofs.version_of.Reads as reads
-use Rattle.parsing.proofs.version_of.Lts as lts
 
 returns : tie.Need-returns
 returns c = sym (List·getD-eq-default (c .before .args .file .now) 0 (search needs))

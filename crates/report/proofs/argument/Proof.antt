@@ -6,9 +6,6 @@ use Rattle.report.specs.Report.{argumentAt}
 use borrow.Author.Needs.{needs}
 use Rattle.report.proofs.argument.Statement.{statement}
 use Rattle.report.proofs.argument.Tie as tie
-use Rattle.report.proofs.argument.Reads as reads
-use Rattle.report.proofs.argument.Lts as lts
-use Rattle.parsing.proofs.value.Reads as value-reads
 
 mul-at : tie.Need-mul-at
 mul-at c = search needs

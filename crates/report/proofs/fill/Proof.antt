@@ -7,9 +7,6 @@ use borrow.Author.Needs.{needs}
 use Rattle.report.specs.ReportLaws.{Filled, filled-none, filled-more, filled-all}
 use Rattle.report.proofs.fill.Statement.{statement}
 use Rattle.report.proofs.fill.Tie as tie
-use Rattle.report.proofs.fill.Reads as reads
-use Rattle.report.proofs.fill.Lts as lts
-use Rattle.report.proofs.argument.Reads as argument-reads
 
 abbrev Inv-loop : tie.InvT-loop
 Inv-loop input n arguments₀ i₀ arguments i = Filled input n i arguments₀ arguments

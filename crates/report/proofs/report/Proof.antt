@@ -6,11 +6,6 @@ use Rattle.report.specs.ReportLaws.{no-byte, no-header, with-header, wro
 use borrow.Author.Needs.{needs}
 use Rattle.report.proofs.report.Statement.{statement}
 use Rattle.report.proofs.report.Tie as tie
-use Rattle.report.proofs.report.Reads as reads
-use Rattle.report.proofs.report.Lts as lts
-use Rattle.report.proofs.fill.Reads as fill-reads
-use Rattle.report.proofs.write_file.Reads as write-file-reads
-use Rattle.text.proofs.write_no_header.Reads as write-no-header-reads
 
 write-no-header-requires : tie.Need-write-no-header-requires
 write-no-header-requires c κs = search needs

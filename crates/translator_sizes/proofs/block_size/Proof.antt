@@ -6,8 +6,6 @@ use native.Mathlib.Omega.{arith}
 use borrow.Author.Needs.{needs}
 use Rattle.translator_sizes.proofs.block_size.Statement.{statement}
 use Rattle.translator_sizes.proofs.block_size.Tie as tie
-use Rattle.procedure_layout.proofs.layout.after_of.Reads as after-of-reads
-use Rattle.procedure_operations.proofs.operation.operation_at.Reads as operation-at-reads
 
 abbrev Inv-loop : tie.InvT-loop
 Inv-loop file u start at₀ n₀ at n = Counting file u start at n

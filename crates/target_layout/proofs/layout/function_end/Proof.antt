@@ -6,11 +6,6 @@ use mathlib.Core.List.{[]}
 use borrow.Author.Needs.{needs}
 use Rattle.target_layout.proofs.layout.function_end.Statement.{statement}
 use Rattle.target_layout.proofs.layout.function_end.Tie as tie
-use Rattle.target_layout.proofs.layout.function_end.Reads as reads
-use Rattle.target_layout.proofs.layout.function_end.Lts as lts
-use Rattle.parsing.proofs.count_at.Reads as count-at-reads
-use Rattle.target_expressions.proofs.expressions.body_end.Reads as body-end-reads
-use Rattle.target_slots.proofs.slots.entry_kinds.Reads as entry-kinds-reads
 
 count-at-requires : tie.Need-count-at-requires
 count-at-requires c κs = search needs

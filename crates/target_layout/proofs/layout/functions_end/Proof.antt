@@ -5,9 +5,6 @@ use Rattle.parsing.specs.ParserLaws.{many-turn, many-halt, many-last}
 use Rattle.target_layout.specs.Layout.{function}
 use Rattle.target_layout.proofs.layout.functions_end.Statement.{statement}
 use Rattle.target_layout.proofs.layout.functions_end.Tie as tie
-use Rattle.target_layout.proofs.layout.functions_end.Reads as reads
-use Rattle.target_layout.proofs.layout.functions_end.Lts as lts
-use Rattle.target_layout.proofs.layout.function_end.Reads as function-end-reads
 
 abbrev Inv-loop : tie.InvT-loop
 Inv-loop file params names start n at₀ left₀ at left =

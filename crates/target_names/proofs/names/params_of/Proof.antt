@@ -3,9 +3,6 @@ use mathlib.Core.Path.{sym}
 use borrow.Author.Needs.{needs}
 use Rattle.target_names.proofs.names.params_of.Statement.{statement}
 use Rattle.target_names.proofs.names.params_of.Tie as tie
-use Rattle.target_names.proofs.names.params_of.Reads as reads
-use Rattle.target_names.proofs.names.params_of.Lts as lts
-use Rattle.casts.proofs.byte_number.Reads as byte-number-reads
 
 shared-slice-read-byte-number : tie.Need-shared-slice-read-byte-number
 shared-slice-read-byte-number c = search needs

@@ -3,8 +3,6 @@ use Rattle.target_slots.specs.Slots.{bound}
 use borrow.Author.Needs.{needs}
 use Rattle.target_slots.proofs.slots.bind.Statement.{statement}
 use Rattle.target_slots.proofs.slots.bind.Tie as tie
-use Rattle.target_slots.proofs.slots.bind.Reads as reads
-use Rattle.target_slots.proofs.slots.bind.Lts as lts
 
 array-write-new : tie.Need-array-write-new
 array-write-new c = search needs

@@ -6,9 +6,6 @@ use Rattle.target_slots.specs.SlotsLaws.{entry-more}
 use Rattle.target_slots.specs.Slots.{entryKinds}
 use Rattle.target_slots.proofs.slots.entry_kinds.Statement.{statement}
 use Rattle.target_slots.proofs.slots.entry_kinds.Tie as tie
-use Rattle.target_slots.proofs.slots.entry_kinds.Reads as reads
-use Rattle.target_slots.proofs.slots.entry_kinds.Lts as lts
-use Rattle.target_slots.proofs.slots.bind.Reads as bind-reads
 
 abbrev Inv-loop : tie.InvT-loop
 Inv-loop params kinds₀ i₀ kinds i = (i ≤ params) × (kinds ≡ entryKinds i)

@@ -5,11 +5,6 @@ use mir.Facts.{toZ-ofZ}
 use borrow.Author.Needs.{needs}
 use Rattle.target_tags.proofs.tag.constant_at.Statement.{statement}
 use Rattle.target_tags.proofs.tag.constant_at.Tie as tie
-use Rattle.target_tags.proofs.tag.constant_at.Reads as reads
-use Rattle.target_tags.proofs.tag.constant_at.Lts as lts
-use Rattle.parsing.proofs.value.Reads as value-reads
-use Rattle.target_tags.proofs.tag.cut.Reads as cut-reads
-use Rattle.casts.proofs.byte_number.Reads as byte-number-reads
 
 add-next : tie.Need-add-next
 add-next c = search needs

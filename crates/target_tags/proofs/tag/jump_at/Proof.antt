@@ -5,11 +5,6 @@ use Prim.Native.Nat.{_+_}
 use borrow.Author.Needs.{needs}
 use Rattle.target_tags.proofs.tag.jump_at.Statement.{statement}
 use Rattle.target_tags.proofs.tag.jump_at.Tie as tie
-use Rattle.target_tags.proofs.tag.jump_at.Reads as reads
-use Rattle.target_tags.proofs.tag.jump_at.Lts as lts
-use Rattle.target_tags.proofs.tag.cut.Reads as cut-reads
-use Rattle.casts.proofs.pair.Reads as pair-reads
-use Rattle.casts.proofs.byte_number.Reads as byte-number-reads
 
 add-values : tie.Need-add-values
 add-values c = search needs

@@ -4,10 +4,6 @@ use mathlib.Core.Path.{_∙_}
 use borrow.Author.Needs.{needs}
 use Rattle.target_tags.proofs.tag.resume_at.Statement.{statement}
 use Rattle.target_tags.proofs.tag.resume_at.Tie as tie
-use Rattle.target_tags.proofs.tag.resume_at.Reads as reads
-use Rattle.target_tags.proofs.tag.resume_at.Lts as lts
-use Rattle.target_tags.proofs.tag.cut.Reads as cut-reads
-use Rattle.casts.proofs.byte_number.Reads as byte-number-reads
 
 add-next : tie.Need-add-next
 add-next c = search needs

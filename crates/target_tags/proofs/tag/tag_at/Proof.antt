@@ -4,18 +4,6 @@ use mathlib.Core.Path.{_∙_}
 use borrow.Author.Needs.{needs}
 use Rattle.target_tags.proofs.tag.tag_at.Statement.{statement}
 use Rattle.target_tags.proofs.tag.tag_at.Tie as tie
-use Rattle.target_tags.proofs.tag.tag_at.Reads as reads
-use Rattle.target_tags.proofs.tag.tag_at.Lts as lts
-use Rattle.target_tags.proofs.tag.continuation_with_handler_at.Reads as continuation-with-handler-at-reads
-use Rattle.target_tags.proofs.tag.branch_at.Reads as branch-at-reads
-use Rattle.target_tags.proofs.tag.constant_at.Reads as constant-at-reads
-use Rattle.target_tags.proofs.tag.continuation_at.Reads as continuation-at-reads
-use Rattle.target_tags.proofs.tag.copy_at.Reads as copy-at-reads
-use Rattle.target_tags.proofs.tag.cut.Reads as cut-reads
-use Rattle.target_tags.proofs.tag.difference_at.Reads as difference-at-reads
-use Rattle.target_tags.proofs.tag.handle_at.Reads as handle-at-reads
-use Rattle.target_tags.proofs.tag.jump_at.Reads as jump-at-reads
-use Rattle.target_tags.proofs.tag.resume_at.Reads as resume-at-reads
 
 cut-requires : tie.Need-cut-requires
 cut-requires c κs = search needs
