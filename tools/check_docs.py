@@ -88,7 +88,7 @@ def links(page, n, line):
 
 
 def paths(page, n, line):
-    for path in PATH.findall(line):
+    for path in PATH.findall(re.sub(r"\]\([^)]*\)", "]", line)):
         if not re.search(r"/(NAME|LABEL)", path) and not glob.glob(path):
             found(page, n, "no such path: " + path)
 
@@ -122,7 +122,7 @@ def names(page, n, line, everything):
     for quoted in TICKS.findall(line):
         plain = re.match(r"^[\w′-]+$", quoted)
         for word in WORD.findall(quoted):
-            if (plain or len(word) > 3) and word not in everything and word not in OTHER and not word.isdigit():
+            if (plain or len(word) > 3) and word not in everything and word not in OTHER and not word.endswith("_cases"):
                 found(page, n, "no such name in crates/: %s (in `%s`)" % (word, quoted))
 
 
