@@ -120,6 +120,8 @@ def code_paths(page, n, line, known):
 
 def names(page, n, line, everything):
     for quoted in TICKS.findall(line):
+        if "/" in quoted or re.match(r"^[0-9A-F ]+$", quoted):  # a path, or bytes
+            continue
         plain = re.match(r"^[\w′-]+$", quoted)
         for word in WORD.findall(quoted):
             if (plain or len(word) > 3) and word not in everything and word not in OTHER and not word.endswith("_cases"):
