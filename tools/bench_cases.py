@@ -1,6 +1,6 @@
 #!/usr/bin/env python3
-"""Writes the cases of crates/bench_cases and the answers expected: run in the repository's root. Needs both.txt of
-../shared/vectors and of its folders slip-2 and slip-7, and start.txt of its folders slip-4 and slip-7.
+"""Writes the cases of crates/bench_cases and the answers expected: run in the repository's root. Reads both.txt of
+vectors and of its folders slip-2 and slip-7, and start.txt of its folders slip-4 and slip-7.
 
 The answers come from tools/procedure.py, and from the words of a frame in docs/FRAMES.md. Where a vector gives the bench's run, the model
 must give the same.

@@ -1,6 +1,6 @@
 #!/usr/bin/env python3
-"""Writes the cases of crates/both_cases and the texts expected: run in the repository's root. Needs both.txt of ../shared/vectors
-and of its folders slip-2, slip-5 and slip-7, and ../shared/peer/both.c, which it compiles with `cc` in a temporary folder.
+"""Writes the cases of crates/both_cases and the texts expected: run in the repository's root. Reads both.txt of vectors and of
+its folders slip-2, slip-5 and slip-7, and vectors/peer/both.c, which it compiles with `cc` in a temporary folder.
 
 The peer is a program that reads one input of `both` and prints its text, written by other hands than the crates and the models. The texts
 come from tools/procedure.py and tools/target.py. Where a vector gives the text, where document 01 lays it down (it is then written here) and
@@ -20,7 +20,7 @@ from procedure import (
     translation, written)
 from raises import RAISES, STEPPED, T_2
 from records import (
-    GREATEST, LEAST, Refused, agree, header, input_of, judge_call, judge_head, little, numbered, procedure_of, shared, vectors, write)
+    GREATEST, LEAST, Refused, agree, header, input_of, judge_call, judge_head, little, numbered, procedure_of, vector_file, vectors, write)
 from target import check as check_target
 from target import run
 
@@ -28,7 +28,7 @@ if shutil.which("cc") is None:
     sys.exit("cc is missing: the peer cannot be compiled")
 folder = tempfile.TemporaryDirectory()
 peer = os.path.join(folder.name, "both")
-subprocess.run(["cc", "-O1", "-DSLIPS=2", "-o", peer, shared("peer", "both.c")], check=True)
+subprocess.run(["cc", "-O1", "-DSLIPS=2", "-o", peer, vector_file("peer/both.c")], check=True)
 cases = []
 
 

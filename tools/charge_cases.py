@@ -1,5 +1,5 @@
 #!/usr/bin/env python3
-"""Writes the cases of crates/charge_cases and the answers expected: run in the repository's root. Needs ../shared/vectors/slip-1/charge.txt.
+"""Writes the cases of crates/charge_cases and the answers expected: run in the repository's root. Reads vectors/slip-1/charge.txt.
 
 The answers are those of document 02, Slip 1. Where a vector gives a charge, they must be the same.
 """

@@ -1,6 +1,6 @@
 #!/usr/bin/env python3
-"""Writes the cases of crates/controller_cases and the answers expected: run in the repository's root. Needs target.txt of
-../shared/vectors and of its folders slip-2 to slip-4 and slip-7, and start.txt of slip-4 and slip-7.
+"""Writes the cases of crates/controller_cases and the answers expected: run in the repository's root. Reads target.txt of
+vectors and of its folders slip-2 to slip-4 and slip-7, and start.txt of slip-4 and slip-7.
 
 The answers come from tools/target.py. Where a vector gives a refusal or a run, the model must give the same.
 """

@@ -1,6 +1,6 @@
 #!/usr/bin/env python3
-"""Writes the cases of crates/merge_cases and the answers expected: run in the repository's root. Needs merge.txt of
-../shared/vectors/slip-4 and ../shared/vectors/slip-7.
+"""Writes the cases of crates/merge_cases and the answers expected: run in the repository's root. Reads merge.txt of
+vectors/slip-4 and vectors/slip-7.
 
 The answers come from tools/procedure.py. Where a vector gives the answer, the model must give the same.
 """

@@ -1,6 +1,6 @@
 #!/usr/bin/env python3
-"""Writes the cases of crates/procedure_cases and the answers expected: run in the repository's root. Needs both.txt of ../shared/vectors and
-of its folder slip-7, and long.txt of its folder slip-5.
+"""Writes the cases of crates/procedure_cases and the answers expected: run in the repository's root. Reads both.txt of vectors and of its
+folder slip-7, and long.txt of its folder slip-5.
 
 The answers come from the checker of tools/procedure.py. Where a vector of Slips 5 and 7 gives the answer, the checker must give the same.
 """

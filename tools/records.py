@@ -1,6 +1,6 @@
 """What the generators share: vectors, fields of several bytes, and the stored records and answers.
 
-A generator runs in the repository's root. It needs nothing outside the repository but ../shared.
+A generator runs in the repository's root, and reads nothing outside the repository.
 """
 import os
 import sys
@@ -15,17 +15,17 @@ class Refused(Exception):
         return "refused %d at %d" % self.args
 
 
-def shared(*names):
-    """The path of a file in ../shared."""
-    path = os.path.join("..", "shared", *names)
+def vector_file(name):
+    """The path of a file in vectors."""
+    path = os.path.join("vectors", *name.split("/"))
     if not os.path.exists(path):
-        sys.exit(f"{path} is missing: run in the repository's root, beside the folder `shared`")
+        sys.exit(f"{path} is missing: run in the repository's root")
     return path
 
 
 def lines(name):
     """The lines of a file of vectors, each as its fields."""
-    for line in open(shared("vectors", name)):
+    for line in open(vector_file(name)):
         line = line.split("#")[0].strip()
         if line:
             yield [field.strip() for field in line.split(":")]

@@ -1,6 +1,6 @@
 #!/usr/bin/env python3
-"""Writes the cases of crates/target_cases and the answers expected: run in the repository's root. Needs target.txt of
-../shared/vectors and of its folders slip-2 to slip-4 and slip-7, and long.txt of slip-5.
+"""Writes the cases of crates/target_cases and the answers expected: run in the repository's root. Reads target.txt of
+vectors and of its folders slip-2 to slip-4 and slip-7, and long.txt of slip-5.
 
 The answers come from the checker of tools/target.py. Where a vector of Slips 5 and 7 gives the answer, the checker must give the same.
 """

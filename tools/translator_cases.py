@@ -1,6 +1,6 @@
 #!/usr/bin/env python3
-"""Writes the cases of crates/translator_cases and the answers expected: run in the repository's root. Needs
-translation.txt of ../shared/vectors and of its folders slip-2 and slip-7.
+"""Writes the cases of crates/translator_cases and the answers expected: run in the repository's root. Reads
+translation.txt of vectors and of its folders slip-2 and slip-7.
 
 The answers come from tools/procedure.py. Where a vector gives the translation, the model must give the same.
 """
