@@ -16,13 +16,13 @@ import tempfile
 from collections import Counter
 
 from procedure import (
-    NONE, T, T_FUNCTIONS, Bench, Function, back, branch, call, check, constant, difference, differs, duplicate, goto, throw, throw_value,
+    NONE, T, T_FUNCTIONS, Function, back, branch, call, check, constant, difference, differs, duplicate, goto, throw, throw_value,
     translation, written)
 from raises import RAISES, STEPPED, T_2
 from records import (
-    GREATEST, LEAST, Refused, agree, header, input_of, judge_call, judge_head, little, numbered, procedure_of, vector_file, vectors, write)
-from target import check as check_target
-from target import run
+    GREATEST, LEAST, Refused, agree, header, input_of, judge_call, judge_head, judge_room, little, numbered, procedure_of, vector_file, vectors,
+    write)
+from sides import Sides
 
 if shutil.which("cc") is None:
     sys.exit("cc is missing: the peer cannot be compiled")
@@ -42,18 +42,12 @@ def model_text(data):
     arguments, depth, budget, file = input_of(data)
     try:
         judge_head(file, b"SPF", 2048)
-        functions, made = check(file), translation(file)
-        if len(made) > 65535:
-            raise Refused(17, 0)
-        if len(made) > 8192:
-            raise Refused(16, 0)
+        functions = check(file)
+        judge_room(len(translation(file)), 8192)
         judge_call(0, [f.parameters for f in functions], len(arguments), depth, 128)
     except Refused as r:
         return f"{r}\n"
-    bench = Bench(file, functions, 0, arguments)
-    stop = bench.run(depth, budget)
-    end, steps, _ = run(check_target(made), 0, arguments, depth, bench.steps + bench.extras + (stop == "deep"))
-    return f"target {len(made)}\nbench {stop} steps {bench.steps}\ncontroller {end} steps {steps}\n"
+    return Sides(file, 0, arguments, depth, budget).text()
 
 
 # An input of `both`, and the text that it is to print where this is laid down.

@@ -6,7 +6,7 @@ The answers come from tools/procedure.py. Where a vector gives the answer, the m
 """
 from collections import Counter
 
-from procedure import LIMIT, Function, T, back, branch, call, check, constant, difference, duplicate, goto, merged, throw, throw_value, written
+from procedure import FAULTY, LIMIT, Function, T, back, branch, call, check, constant, difference, duplicate, goto, merged, throw, throw_value, written
 from raises import RAISES, T_2
 from records import Refused, agree, little, vectors, write
 
@@ -84,13 +84,10 @@ for other in others:
 
 # Refused files: the first's refusal comes first, each has its place in its own file, and the output is kept. No call of one file finds a
 # function of the other. The files' refusals come before 22 and 16.
-faulty = [
-    b"SPG", T[:3] + b"\2" + T[4:], T[:-1], T + b"\0", T[:5] + b"\x21" + T[6:], T[:9] + b"\x09" + T[10:], T[:-1] + b"\2",
-    T[:11] + b"\3" + T[12:], T[:14] + b"\2" + T[15:], T[:28] + b"\2" + T[29:]]
-for i, file in enumerate(faulty):
+for i, file in enumerate(FAULTY):
     add(file, T, 90)
     add(T, file, 90)
-    add(file, faulty[i - 1], 20)
+    add(file, FAULTY[i - 1], 20)
     add(crossed(32), file, 20)
     add(file, crossed(32), 0)
 for file in (bytes(LIMIT + 1), T.ljust(LIMIT + 1, b"\0")):

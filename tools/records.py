@@ -107,14 +107,31 @@ def numbered(s):
     return s[3:5] == b"\2\0"
 
 
-def judge_call(start, parameters, given, depth, delta):
-    """The refusals of a machine's call: 9, 14, then 16. `parameters` are the parameter counts of the functions; `delta` less 128 is how many
-    words are lent beyond 48 a frame of the depth."""
+def judge_start(start, parameters, given):
+    """The refusals of a start function and its arguments: 9, then 14. `parameters` are the parameter counts of the functions."""
     if start >= len(parameters):
         raise Refused(9, 0)
     if given != parameters[start]:
         raise Refused(14, 0)
+
+
+def judge_words(depth, delta):
+    """The refusal of a depth and the words lent for it: 16. `delta` less 128 is how many are lent beyond 48 a frame of the depth."""
     if depth > 256 or max(0, 48 * depth + delta - 128) < 48 * depth:
+        raise Refused(16, 0)
+
+
+def judge_call(start, parameters, given, depth, delta):
+    """The refusals of a machine's call: 9, 14, then 16."""
+    judge_start(start, parameters, given)
+    judge_words(depth, delta)
+
+
+def judge_room(size, room):
+    """The refusals of a translation of so many bytes, by the room lent: 17, then 16."""
+    if size > 65535:
+        raise Refused(17, 0)
+    if size > room:
         raise Refused(16, 0)
 
 

@@ -6,7 +6,7 @@ The answers come from tools/procedure.py. Where a vector gives the translation, 
 """
 from procedure import LIMIT, Function, T, call, difference, differs, duplicate, goto, throw, throw_value, translation, written
 from raises import RAISES, T_2
-from records import Refused, agree, little, vectors, write
+from records import Refused, agree, judge_room, little, vectors, write
 
 cases = []
 
@@ -75,10 +75,7 @@ answers = []
 for file, room in cases:
     try:
         made = translation(file)
-        if len(made) > 65535:
-            raise Refused(17, 0)
-        if len(made) > room:
-            raise Refused(16, 0)
+        judge_room(len(made), room)
         out[:len(made)] = made
         answer = f"written {len(made)}"
     except Refused as r:
