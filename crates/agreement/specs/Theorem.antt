@@ -63,7 +63,7 @@ receiver-fits : (v : ℕ) (r : Option Variable) → ReceiverFits v r → NamedIn
 receiver-fits v none f = tt
 receiver-fits v (some x) f = f .0
 
-blocks-fit : (v : ℕ) (bs : List Labelled) → All (LabelledFits v) bs → All (Translated.LabelledFits v) bs
+blocks-fit : (v : ℕ) (bs : List Labelled) → All (LabelledFits v) bs → All (Translated.LabelledBlockFits v) bs
 blocks-fit v [] a = tt
 blocks-fit v (B ∷ bs) a = ((receiver-fits v (B .receiver) (a .0 .0), block-fits v (B .block) (a .0 .1)), blocks-fit v bs (a .1))
 

@@ -1,5 +1,6 @@
 // Program `both` (document 01): reads argument count, arguments, depth, budget and a procedure file, runs the procedure on the bench and
 // its translation on the controller, and writes what they come to.
+use libc::STDERR_FILENO;
 use libc::STDIN_FILENO;
 use libc::STDOUT_FILENO;
 use report::report;
@@ -10,5 +11,7 @@ fn main() {
     let got = io::read_full(STDIN_FILENO, &mut space);
     let mut out = [0u8; 256];
     let n = report(&space[..got], &mut out);
-    io::write_all(STDOUT_FILENO, &out[..n]);
+    if !io::write_all(STDOUT_FILENO, &out[..n]) {
+        io::write_all(STDERR_FILENO, b"both: output lost\n");
+    }
 }

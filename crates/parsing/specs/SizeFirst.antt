@@ -1,4 +1,5 @@
--- The head of a file as it was judged before Slip 5 of document 02, the size first; and which answers of a check that request changed.
+-- The head of a file with its size judged first, the order before Slip 5 of document 02, over both versions; and which answers of a check differ from
+-- that order's.
 use Prim.Native.Nat.{ℕ, _+_, _*_, _<_}
 use mathlib.Core.Path.{_≡_}
 use mathlib.Core.List.{List}

@@ -4,7 +4,7 @@ ghost use Prim.Native.Nat.{_<_};
 ghost use Rattle.parsing.specs.Refusals.{missingVariable, missingFunction};
 ghost use Rattle.procedure_operations.specs.Numbers.{maxFunctions, maxVariables, found, functionAs, variableAs};
 
-// As usize: of neighbouring bytes the compiler makes one load, and takes it apart again, 1.4 instructions more a step of the bench (docs/DECISIONS.md).
+// As usize: of neighbouring bytes the compiler makes one load, and takes it apart again, 1.4 instructions more a step of the bench (docs/MEASURES.md).
 pub struct FunctionNumber(usize);
 
 pub struct VariableNumber(usize);

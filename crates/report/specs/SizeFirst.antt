@@ -1,4 +1,4 @@
--- The verdict of `both` on a file as it was before Slip 5 of document 02, the size first.
+-- The verdict of `both` on a file with its size judged first, the order before Slip 5 of document 02, over both versions.
 use Prim.Native.Nat.{ℕ}
 use mathlib.Core.List.{List}
 use Rattle.parsing.specs.Parser.{Verdict, orElse, pastOf}

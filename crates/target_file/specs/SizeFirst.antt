@@ -1,4 +1,4 @@
--- The check of a translated file as it was before Slip 5 of document 02, the size first.
+-- The check of a translated file with its size judged first, the order before Slip 5 of document 02, over both versions.
 use Prim.Native.Nat.{ℕ}
 use mathlib.Core.Bool.{Bool, false}
 use mathlib.Core.List.{List, []}

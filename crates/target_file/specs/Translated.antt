@@ -31,8 +31,8 @@ BlockFits version (return x) = Unit {0}
 BlockFits version (branch y z l m) = Unit {0}
 BlockFits version (raise r) = NamedInTwo version r
 
-abbrev pub LabelledFits : ℕ → Labelled → Type 0
-LabelledFits version B = NamedInTwo version (B .receiver) × BlockFits version (B .block)
+abbrev pub LabelledBlockFits : ℕ → Labelled → Type 0
+LabelledBlockFits version B = NamedInTwo version (B .receiver) × BlockFits version (B .block)
 
 -- "parameter count (0 to 8), local count (0 to 24), labelled block count (0 to 63)"
 pub record FunctionFits (version : ℕ) (F : Function) : Type 0 where
@@ -41,7 +41,7 @@ pub record FunctionFits (version : ℕ) (F : Function) : Type 0 where
   pub locals : F .locals ≤ 24
   pub blocks : length (F .blocks) ≤ 63
   pub entry : BlockFits version (F .entry)
-  pub labelled : All (LabelledFits version) (F .blocks)
+  pub labelled : All (LabelledBlockFits version) (F .blocks)
 
 -- A well-formed program of a version within document 01's ranges: "function count (1 to 32)".
 pub record Source (P : Program) : Type 0 where

@@ -27,13 +27,13 @@ use Rattle.target_file.specs.Writing.{slotWidth, writing, FieldsFit, Nes
 use Rattle.target_file.specs.LoadedCodeLaws.{passed, code-is}
 use Rattle.target_file.specs.Accepted.{HasFile}
 use Rattle.target_file.specs.AcceptedLaws.{is-accepted, written-stands}
-use Rattle.target_file.specs.Translated.{NamedInTwo, BlockFits, LabelledFits, FunctionFits, Source, TranslationAccepted}
+use Rattle.target_file.specs.Translated.{NamedInTwo, BlockFits, LabelledBlockFits, FunctionFits, Source, TranslationAccepted}
 
 zero-fits : SFits w32 (pos 0)
 zero-fits = sfits-lit tt
 
 -- The receivers of a function's blocks.
-receiver-named : (v : ℕ) (Bs : List Labelled) → All (LabelledFits v) Bs → (l : Label) → NamedInTwo v (receiverIn (labelledAt Bs l))
+receiver-named : (v : ℕ) (Bs : List Labelled) → All (LabelledBlockFits v) Bs → (l : Label) → NamedInTwo v (receiverIn (labelledAt Bs l))
 receiver-named v Bs f zero = tt
 receiver-named v [] f (suc l) = tt
 receiver-named v (B ∷ Bs) f (suc zero) = f .0 .0
@@ -76,7 +76,7 @@ module _ (numbers : FunctionNumber → ℕ) (base : ℕ) (F : Function) where
   raise-nests level zero (some y) = tt
   raise-nests level (suc l) r = raised-nests level (receiverSlot (receiverAt F (suc l))) r (toLabel base (variables F) (suc l)) tt
 
-  code-fits : All (LabelledFits v) (F .blocks) → (h : Handler) (b : Block) → BlockFits v b → FieldsFit v (code numbers base F h b)
+  code-fits : All (LabelledBlockFits v) (F .blocks) → (h : Handler) (b : Block) → BlockFits v b → FieldsFit v (code numbers base F h b)
   unfolding code
   code-fits g h (constant x i b) f = (f .0, code-fits g h b (f .1))
   code-fits g h (copy x y b) f = code-fits g h b f
@@ -121,7 +121,7 @@ module _ (numbers : FunctionNumber → ℕ) where
           fields = zeros-fit (F .version) (slotOf (F .params)) (F .locals) (code numbers base F 0 (F .entry)) (code-fits numbers base F (f .labelled) 0 (F .entry) (f .entry));
           levels = zeros-nest (slotOf (F .params)) (F .locals) (code numbers base F 0 (F .entry)) (code-nests numbers base F 0 (F .entry));
         },
-        all-mapped (TargetInRange (F .version)) (LabelledFits (F .version)) (blockTarget numbers base F) (F .blocks)
+        all-mapped (TargetInRange (F .version)) (LabelledBlockFits (F .version)) (blockTarget numbers base F) (F .blocks)
             (λ B b. record {
               versionIs = refl;
               params = omega arith;
