@@ -4,7 +4,7 @@ translation.txt of vectors and of its folders slip-2 and slip-7.
 
 The answers come from tools/procedure.py. Where a vector gives the translation, the model must give the same.
 """
-from procedure import LIMIT, Function, T, call, difference, differs, duplicate, goto, throw, throw_value, translation, written
+from procedure import LIMIT, Function, T, differs, filled, throw_value, translation, written
 from raises import RAISES, T_2
 from records import Refused, agree, judge_room, little, vectors, write
 
@@ -29,21 +29,6 @@ add_vectors("slip-2/translation.txt")
 # Room for the translation of T exactly, one byte too few, none, and more: what stands behind the translation is kept.
 for room in (106, 105, 0, 300):
     add(T, room)
-
-
-# A file whose translation has so many bytes: a block of calls, which grow most, filled up by copies and differences. With a receiver it is of
-# version 2.
-def filled(length, *receiver):
-    calls, last, version = (1230, throw_value(3), 2) if receiver else (1255, throw, 1)
-
-    def made(copies, differences):
-        block = [call(0, 1, [])] * calls + [duplicate(0, 1)] * copies + [difference(0, 1, 2)] * differences + [last]
-        return written(Function(8, 24, [goto(1)], (1, *receiver, block)), Function(0, 0, [throw]), version=version)
-
-    none, one = (len(translation(made(0, n))) for n in (0, 1))
-    differences = next(n for n in range(length) if (length - none - (one - none) * n) % 3 == 0)
-    return made((length - none - (one - none) * differences) // 3, differences)
-
 
 # A translation of 65,535 bytes is the longest: 16 for one byte of room too few. One byte more is refused with 17, whatever the room.
 add(filled(65535), 65534)
