@@ -37,7 +37,7 @@ pub fn load(file: &[u8], starts: &mut [u16; 2048]) -> Checked
 {
     match layout::code_end(file, &file[..0], false) {
         Scan::Past(_) => names_loaded(file, starts),
-        Scan::Stopped(r) => Checked::Refused(r),
+        Scan::Stopped(wrong) => Checked::Refused(wrong),
     }
 }
 

@@ -21,8 +21,8 @@ names-loaded-requires c κs =
     let at-code-end = at-enum-told .before .before in
     laid-out _ _ (sym (at-code-end .code-end .ensures) ∙ at-enum-told .enum-told .given .1)
 
-enum-known-r : tie.Need-enum-known-r
-enum-known-r c = search needs
+enum-known-wrong : tie.Need-enum-known-wrong
+enum-known-wrong c = search needs
 
 returns : tie.Need-returns
 returns c =
@@ -33,7 +33,7 @@ returns c =
 returns-2 : tie.Need-returns-2
 returns-2 c =
     let at-code-end = c .before .before .before in
-    (check-stop _ _ (sym (at-code-end .code-end .ensures) ∙ c .before .r .given .1), refl)
+    (check-stop _ _ (sym (at-code-end .code-end .ensures) ∙ c .before .wrong .given .1), refl)
 
 pub load-spec : {M : Type 1} → statement M
 load-spec =
@@ -43,6 +43,6 @@ load-spec =
     code-end-requires
     enum-told
     names-loaded-requires
-    enum-known-r
+    enum-known-wrong
     returns
     returns-2)

@@ -21,7 +21,7 @@ mul-offset-number : tie.Need-mul-offset-number
 mul-offset-number c = let entry = c .before .before .before .before in omega (arith, inside entry)
 
 array-read-offset-number : tie.Need-array-read-offset-number
-array-read-offset-number c = let entry = c .before .before .before .before in inside entry
+array-read-offset-number c = let entry = c .before .before .before .before in omega (arith, inside entry)
 
 offset-number-requires : tie.Need-offset-number-requires
 offset-number-requires c κs = search needs
