@@ -62,9 +62,13 @@ sub-from c =
     let at-if1 = at-labels-of .before in
     let at-functions-of = at-if1 .before in
     let entry = at-functions-of .before .before in
-    before-room (entry .args .file .now) (entry .pre .laid) (entry .args .f) (omega (arith, at-functions-of .functions-of .ensures, at-if1 .if1 .left)) (entry .args .l) _ _
+    let start = at-if3 .before .before .start-of .result in
+    let before = c .bytes-before .result in
+    let room : before ≤ start =
+    before-room (entry .args .file .now) (entry .pre .laid) (entry .args .f) (omega (arith, at-functions-of .functions-of .ensures, at-if1 .if1 .left)) (entry .args .l) start before
     (positive (at-if3 .if3 .left)) (omega (arith, at-if2 .if2 .left, at-byte-number .byte-number .ensures .0, at-labels-of .labels-of .ensures))
-    (at-if3 .before .before .start-of .ensures) (c .bytes-before .ensures)
+    (at-if3 .before .before .start-of .ensures) (c .bytes-before .ensures) in
+    omega arith
 
 returns-4 : tie.Need-returns-4
 returns-4 c =

@@ -1,5 +1,7 @@
 -- `procedure_fields::fields::raise_value_fields` meets its contract.
+use Prim.Native.Nat.{_+_, _<_}
 use native.Mathlib.Omega.{arith}
+use lib.ListN.{getD}
 use Rattle.procedure_fields.specs.FieldsLaws.{in-range, raise-value-room, raise-value-bytes, raise-value-fields}
 use Rattle.procedure_fields.proofs.fields.raise_value_fields.Statement.{statement}
 use Rattle.procedure_fields.proofs.fields.raise_value_fields.Tie as tie
@@ -22,7 +24,10 @@ shared-slice-read-raised c =
 checked-variable-requires : tie.Need-checked-variable-requires
 checked-variable-requires c κs =
     let entry = c .before .before in
-    in-range (entry .args .file .now) (entry .args .at) (entry .pre .1) (raise-value-bytes (entry .args .file .now) (entry .args .at) (entry .pre .0))
+    let file = entry .args .file .now in
+    let at = entry .args .at in
+    let range : getD file (at + 1) 0 < 32 = in-range file at (entry .pre .1) (raise-value-bytes file at (entry .pre .0)) in
+    omega arith
 
 returns : tie.Need-returns
 returns c =
