@@ -42,10 +42,10 @@ module _ (s : List ℕ) (at n : ℕ) where
   unfolding operationBytes
   call-bytes next e = rw e
 
-  pub plain-rest : (next : ℕ) {o : ℕ} {d : List ℕ} → getD s at 0 ≢ 4 → Room o (operationBytes s at next n) d → Rest o (operationBytes s at next n) d o (stretch s at next) d
+  pub plain-rest : (next : ℕ) {o : ℕ} {d : List ℕ} → getD s at 0 ≢ 4 → Room o (length (operationBytes s at next n)) d → Rest o (operationBytes s at next n) d o (stretch s at next) d
   plain-rest next h R = rest-from R (plain-bytes next h)
 
-  pub call-rest : (next : ℕ) {o : ℕ} {d : List ℕ} → getD s at 0 ≡ 4 → Room o (operationBytes s at next n) d
+  pub call-rest : (next : ℕ) {o : ℕ} {d : List ℕ} → getD s at 0 ≡ 4 → Room o (length (operationBytes s at next n)) d
       → Rest o (operationBytes s at next n) d o (callHead s at n ++ stretch s (at + 4) next) d
   call-rest next e R = rest-from R (call-bytes next e)
 
@@ -156,7 +156,7 @@ pub record Turn (s : List ℕ) (start n o₀ : ℕ) (d₀ : List ℕ) (at o : �
   pub here : OperationStands s at
   pub rest : Rest o₀ (restBytes s start n) d₀ o (restBytes s at n) d
 
-pub turn-none : {s : List ℕ} {start n o : ℕ} {d : List ℕ} → OperationStands s start → Room o (restBytes s start n) d → Turn s start n o d start o d
+pub turn-none : {s : List ℕ} {start n o : ℕ} {d : List ℕ} → OperationStands s start → Room o (length (restBytes s start n)) d → Turn s start n o d start o d
 turn-none H R = record { here = H; rest = rest-none R }
 
 module _ {s : List ℕ} {start n o₀ : ℕ} {d₀ : List ℕ} {at o : ℕ} {d : List ℕ} (T : Turn s start n o₀ d₀ at o d) {x : Operation} (e : x ≡ operationAt s at) {a : After} (ea : a ≡ afterOf x) where
@@ -170,7 +170,7 @@ module _ {s : List ℕ} {start n o₀ : ℕ} {d₀ : List ℕ} {at o : ℕ} {d :
     pub turn-fits : n ≤ 32 → OperationFits s at m n
     turn-fits small = operation-fits (T .here) n m small (after-is q)
 
-    pub turn-room : Room o (operationBytes s at m n) d
+    pub turn-room : Room o (length (operationBytes s at m n)) d
     turn-room = room-front (operationBytes s at m n) (restBytes s m n) (rest-as (T .rest) _ (parts-by q))
 
     pub turn-moves : (at < m) × (m ≤ length s)
@@ -191,7 +191,7 @@ module _ {s : List ℕ} {start n o₀ : ℕ} {d₀ : List ℕ} {at o : ℕ} {d :
     last-rest : Rest o₀ (restBytes s start n) d₀ o (stretch s at m) d
     last-rest = subst (λ (w : List ℕ). Rest o₀ (restBytes s start n) d₀ o w d) (parts-by q) (T .rest)
 
-    pub turn-last : Room o (stretch s at m) d
+    pub turn-last : Room o (length (stretch s at m)) d
     turn-last = rest-room last-rest
 
     pub turn-done : {r : ℕ} {d′ : List ℕ} → Wrote o (stretch s at m) d r d′ → Wrote o₀ (restBytes s start n) d₀ r d′

@@ -130,7 +130,7 @@ module _ {s t starts : List ℕ} (B : BothLoaded s t starts) where
   version-is = let least = laid-reads (B .laid) .least in merged-version (programOf s) (programOf t) least ∙ first-invariant .version 0 (omega (arith, least))
 
   -- The head, the first file's functions, the second's.
-  pub file-rest : (version all kept : ℕ) {d : List ℕ} → version ≡ versionOf s → all ≡ length (merged (programOf s) (programOf t)) → kept ≡ length (programOf s) → Room 0 (mergedOf s t) d
+  pub file-rest : (version all kept : ℕ) {d : List ℕ} → version ≡ versionOf s → all ≡ length (merged (programOf s) (programOf t)) → kept ≡ length (programOf s) → Room 0 (length (mergedOf s t)) d
       → Rest 0 (mergedOf s t) d 0 (headBytes version all ++ (stretch s 6 (length s) ++ joined functionBytes (map (renumberedFunction kept) (programOf t)))) d
   file-rest version all kept ev ea ek R = rest-from R (rw (ev, ea, ek, ← version-is, functions-stand first-invariant) (parts-are s t))
 
@@ -169,7 +169,7 @@ fitting s t room e =
       roomBound = leb-true m room (unless-accepted (leb m room) 16 0 (b .1));
     }
 
-pub fitting-room : (s t d : List ℕ) {c : Checked} → verdictOf c ≡ filesVerdict s t (length d) → c ≡ Accepted → FewFunctions s t × Room 0 (mergedOf s t) d
+pub fitting-room : (s t d : List ℕ) {c : Checked} → verdictOf c ≡ filesVerdict s t (length d) → c ≡ Accepted → FewFunctions s t × Room 0 (length (mergedOf s t)) d
 fitting-room s t d e q =
     let f = fitting s t (length d) (sym e ∙ ap verdictOf q) in
     (f .functionBound, record { fits = omega (arith, f .roomBound); small = omega (arith, f .byteBound) })

@@ -62,13 +62,13 @@ module _ {s starts : List ℕ} (L : Loaded s starts) {f : ℕ} (there : f < leng
         let T = L .tabled .laid in
         (before-room s T f there l x b labelled block ex eb, omega (arith, start-room s T f there l x block ex .1))
 
-    pub label-rest : (n : ℕ) {o : ℕ} {d : List ℕ} → Room o (labelBytes s f l n) d → Rest o (labelBytes s f l n) d o (stretch s (x - b) x ++ restBytes s x n) d
+    pub label-rest : (n : ℕ) {o : ℕ} {d : List ℕ} → Room o (length (labelBytes s f l n)) d → Rest o (labelBytes s f l n) d o (stretch s (x - b) x ++ restBytes s x n) d
     unfolding labelBytes
     label-rest n R = rest-from R (rw (label-head s (L .tabled .laid) f there l x b labelled block ex eb, block-is n))
 
 -- The counts p, q and k of function f, then its entry block, which starts at x.
 pub entry-rest : {s starts : List ℕ} → Loaded s starts → {f : ℕ} → f < length (programOf s) → {x : ℕ} → x ≡ startOf (programOf s) f 0 → (p q k n : ℕ) {o : ℕ} {d : List ℕ}
-    → p ≡ functionOf (programOf s) f .params → q ≡ functionOf (programOf s) f .locals → k ≡ length (functionOf (programOf s) f .blocks) → Room o (entryBytes s f n) d
+    → p ≡ functionOf (programOf s) f .params → q ≡ functionOf (programOf s) f .locals → k ≡ length (functionOf (programOf s) f .blocks) → Room o (length (entryBytes s f n)) d
     → Rest o (entryBytes s f n) d o ((p ∷ q ∷ k ∷ []) ++ restBytes s x n) d
 unfolding entryBytes
 entry-rest L there ex p q k n ep eq ek R = rest-from R (rw (ep, eq, ek, block-is L there {l = 0} (omega arith) ex n))

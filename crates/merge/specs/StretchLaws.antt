@@ -20,7 +20,7 @@ pub record Copying (s : List ℕ) (at next o₀ : ℕ) (d₀ : List ℕ) (i o : 
   pub inside : next ≤ length s
   pub rest : Rest o₀ (stretch s at next) d₀ o (stretch s i next) d
 
-pub copying-none : {s : List ℕ} {at next o : ℕ} {d : List ℕ} → next ≤ length s → Room o (stretch s at next) d → Copying s at next o d at o d
+pub copying-none : {s : List ℕ} {at next o : ℕ} {d : List ℕ} → next ≤ length s → Room o (length (stretch s at next)) d → Copying s at next o d at o d
 copying-none h R = record { inside = h; rest = rest-none R }
 
 module _ {s : List ℕ} {at next o₀ : ℕ} {d₀ : List ℕ} {i o : ℕ} {d : List ℕ} (C : Copying s at next o₀ d₀ i o d) where
@@ -32,7 +32,7 @@ module _ {s : List ℕ} {at next o₀ : ℕ} {d₀ : List ℕ} {i o : ℕ} {d : 
         ap (λ (j : ℕ). take j (drop i s)) k
         ∙ (ap (take (suc m)) (drop-cons s i 0 (omega (arith, C .inside))) ∙ ap (λ (j : ℕ). getD s i 0 ∷ take m (drop j s)) (sym (add-one i)))
 
-    pub copying-room : Room o (getD s i 0 ∷ []) d
+    pub copying-room : Room o 1 d
     copying-room = room-front (getD s i 0 ∷ []) (stretch s (i + 1) next) (rest-as (C .rest) _ more)
 
     pub copying-more : {r : ℕ} {d′ : List ℕ} → Wrote o (getD s i 0 ∷ []) d r d′ → Copying s at next o₀ d₀ (i + 1) r d′

@@ -23,7 +23,7 @@ ghost use Rattle.merge.specs.Asked.{OperationFits, OperationStands};
 // The bytes of a file from `at` up to `next`.
 pub fn put_stretch(file: &[u8], at: usize, next: usize, out: &mut [u8], o: usize) -> usize
     requires { ⌜ (at ≤ next) × (next ≤ length (now file)) ⌝ }
-    requires { ⌜ Room o (stretch (now file) at next) (now out) ⌝ }
+    requires { ⌜ Room o (length (stretch (now file) at next)) (now out) ⌝ }
     ensures { λ r. ⌜ Wrote o (stretch (now (file .entry)) at next) (now (out .entry)) r (now (out .exit)) ⌝ }
 {
     let mut place = o;
@@ -38,7 +38,7 @@ pub fn put_stretch(file: &[u8], at: usize, next: usize, out: &mut [u8], o: usize
 // The operation from `at` up to `next`; the function that a call names gets `count` added to its number.
 fn put_operation(file: &[u8], at: usize, next: usize, count: u8, out: &mut [u8], o: usize) -> usize
     requires { ⌜ OperationFits (now file) at next count ⌝ }
-    requires { ⌜ Room o (operationBytes (now file) at next count) (now out) ⌝ }
+    requires { ⌜ Room o (length (operationBytes (now file) at next count)) (now out) ⌝ }
     ensures { λ r. ⌜ Wrote o (operationBytes (now (file .entry)) at next count) (now (out .entry)) r (now (out .exit)) ⌝ }
 {
     if file[at] == 4 {
@@ -56,7 +56,7 @@ fn put_operation(file: &[u8], at: usize, next: usize, count: u8, out: &mut [u8],
 // The block whose first operation stands at `start`.
 fn put_block(file: &[u8], start: usize, count: u8, out: &mut [u8], o: usize) -> usize
     requires { ⌜ OperationStands (now file) start × (count ≤ maxFunctions) ⌝ }
-    requires { ⌜ Room o (restBytes (now file) start count) (now out) ⌝ }
+    requires { ⌜ Room o (length (restBytes (now file) start count)) (now out) ⌝ }
     ensures { λ r. ⌜ Wrote o (restBytes (now (file .entry)) start count) (now (out .entry)) r (now (out .exit)) ⌝ }
 {
     let mut at = start;
@@ -89,7 +89,7 @@ fn put_label(
 ) -> usize
     requires { ⌜ Loaded (now file) (now starts) × (count ≤ maxFunctions) ⌝ }
     requires { ⌜ (f < length (programOf (now file))) × (1 ≤ l) × (l ≤ length (functionOf (programOf (now file)) f .blocks)) ⌝ }
-    requires { ⌜ Room o (labelBytes (now file) f l count) (now out) ⌝ }
+    requires { ⌜ Room o (length (labelBytes (now file) f l count)) (now out) ⌝ }
     ensures { λ r. ⌜ Wrote o (labelBytes (now (file .entry)) f l count) (now (out .entry)) r (now (out .exit)) ⌝ }
 {
     let start = table::start_of(file, starts, f, l);
@@ -110,7 +110,7 @@ fn put_entry(
 ) -> usize
     requires { ⌜ Loaded (now file) (now starts) × (count ≤ maxFunctions) ⌝ }
     requires { ⌜ f < length (programOf (now file)) ⌝ }
-    requires { ⌜ Room o (entryBytes (now file) f count) (now out) ⌝ }
+    requires { ⌜ Room o (length (entryBytes (now file) f count)) (now out) ⌝ }
     ensures { λ r. ⌜ Wrote o (entryBytes (now (file .entry)) f count) (now (out .entry)) r (now (out .exit)) ⌝ }
 {
     let params = table::params_of(file, starts, f);
@@ -132,7 +132,7 @@ fn put_function(
 ) -> usize
     requires { ⌜ Loaded (now file) (now starts) × (count ≤ maxFunctions) ⌝ }
     requires { ⌜ f < length (programOf (now file)) ⌝ }
-    requires { ⌜ Room o (functionBytes (renumberedFunction count (functionOf (programOf (now file)) f))) (now out) ⌝ }
+    requires { ⌜ Room o (length (functionBytes (renumberedFunction count (functionOf (programOf (now file)) f)))) (now out) ⌝ }
     ensures { λ r. ⌜ Wrote o (functionBytes (renumberedFunction count (functionOf (programOf (now (file .entry))) f))) (now (out .entry)) r (now (out .exit)) ⌝ }
 {
     let last = byte_number(table::labels_of(file, starts, f));
@@ -154,7 +154,7 @@ pub fn put_functions(
     o: usize,
 ) -> usize
     requires { ⌜ Loaded (now file) (now starts) × (count ≤ maxFunctions) ⌝ }
-    requires { ⌜ Room o (joined functionBytes (map (renumberedFunction count) (programOf (now file)))) (now out) ⌝ }
+    requires { ⌜ Room o (length (joined functionBytes (map (renumberedFunction count) (programOf (now file))))) (now out) ⌝ }
     ensures { λ r. ⌜ Wrote o (joined functionBytes (map (renumberedFunction count) (programOf (now (file .entry))))) (now (out .entry)) r (now (out .exit)) ⌝ }
 {
     let functions = table::functions_of(file);

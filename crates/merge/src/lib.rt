@@ -51,7 +51,7 @@ fn size_checked(functions: usize, size: usize, room: usize) -> Checked
 
 // Mark, version and function count.
 fn put_head(out: &mut [u8], version: u8, functions: u8) -> usize
-    requires { ⌜ Room 0 (headBytes version functions) (now out) ⌝ }
+    requires { ⌜ Room 0 6 (now out) ⌝ }
     ensures { λ r. ⌜ Wrote 0 (headBytes version functions) (now (out .entry)) r (now (out .exit)) ⌝ }
 {
     let mark = b"SPF";
@@ -62,7 +62,7 @@ fn put_head(out: &mut [u8], version: u8, functions: u8) -> usize
 // The merged file: its head, the first file's functions as they stand, the second's with its calls renumbered.
 fn put_file(first: &[u8], second: &[u8], starts: &[u16; 2048], out: &mut [u8]) -> usize
     requires { ⌜ BothLoaded (now first) (now second) (now starts) × FewFunctions (now first) (now second) ⌝ }
-    requires { ⌜ Room 0 (mergedOf (now first) (now second)) (now out) ⌝ }
+    requires { ⌜ Room 0 (length (mergedOf (now first) (now second))) (now out) ⌝ }
     ensures { λ r. ⌜ Wrote 0 (mergedOf (now (first .entry)) (now (second .entry))) (now (out .entry)) r (now (out .exit)) ⌝ }
 {
     let version = version_of(first);

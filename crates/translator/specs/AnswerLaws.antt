@@ -26,5 +26,5 @@ fitting-room n m e =
 pub room-judged : (s d : List ℕ) {n : ℕ} {v : Verdict} → n ≡ length (translationOf s) → v ≡ roomVerdict n (length d) → v ≡ roomVerdict (length (translationOf s)) (length d)
 room-judged s d is e = e ∙ ap (λ (k : ℕ). roomVerdict k (length d)) is
 
-pub answer-room : (s d : List ℕ) {n : ℕ} → n ≡ length (translationOf s) → {c : Checked} → verdictOf c ≡ roomVerdict n (length d) → c ≡ Accepted → Room 0 (translationOf s) d
+pub answer-room : (s d : List ℕ) {n : ℕ} → n ≡ length (translationOf s) → {c : Checked} → verdictOf c ≡ roomVerdict n (length d) → c ≡ Accepted → Room 0 (length (translationOf s)) d
 answer-room s d {n} is e q = let f = fitting-room n (length d) (sym e ∙ ap verdictOf q) in record { fits = omega (arith, f .1); small = omega (arith, f .0) }

@@ -17,13 +17,13 @@ use Rattle.procedure_fields.specs.Number.{numberOf, countOf}
 use Rattle.procedure_fields.specs.NumberLaws.{number-known, raise-known}
 use Rattle.procedure_layout.specs.After.{afterOf}
 use Rattle.procedure_file.specs.Check.{programOf}
-use Rattle.translator_bytes.specs.Bytes.{tabled, operationBytes}
+use Rattle.translator_bytes.specs.Bytes.{tabled, operationBytes, operationSize}
 use Rattle.translator_bytes.specs.declared.jumps.Under.{Under}
 use Rattle.translator_sizes.specs.Parts.{bytesAt}
 use Rattle.translator_bytes.specs.Writes.{Room, Wrote, CallStands}
-use Rattle.translator_bytes.specs.WriteLaws.{Rest, rest-none, rest-as, rest-more, rest-done, room-front}
+use Rattle.translator_bytes.specs.WriteLaws.{room-as, room-front, Rest, rest-none, rest-as, rest-more, rest-done}
 use Rattle.translator.specs.Standing.{Numbered, Placed}
-use Rattle.translator_sizes.specs.OperationLaws.{Fine, fine, following, split-at}
+use Rattle.translator_sizes.specs.OperationLaws.{Fine, fine, following, split-at, operation-size}
 use Rattle.translator_sizes.specs.CountLaws.{goes-on, never-halts}
 use Rattle.translator_bytes.specs.Bytes.{callBytes}
 
@@ -46,7 +46,7 @@ pub record Turn (s ns : List ℕ) (base : ℕ) (u : Under) (start o₀ : ℕ) (d
   pub placed : Placed s ns base (u .variables) at
   pub rest : Rest o₀ (bytesAt s base u start) d₀ o (bytesAt s base u at) d
 
-pub turn-none : {s ns : List ℕ} {base : ℕ} {u : Under} {start o : ℕ} {d : List ℕ} → Placed s ns base (u .variables) start → Room o (bytesAt s base u start) d
+pub turn-none : {s ns : List ℕ} {base : ℕ} {u : Under} {start o : ℕ} {d : List ℕ} → Placed s ns base (u .variables) start → Room o (length (bytesAt s base u start)) d
     → Turn s ns base u start o d start o d
 turn-none P R = record { placed = P; rest = rest-none R }
 
@@ -58,8 +58,11 @@ module _ {s ns : List ℕ} {base : ℕ} {u : Under} {start o₀ : ℕ} {d₀ : L
       split-at base u H
       ∙ ap (λ (w : List ℕ). w ++ following (afterOf (operationAt s at)) (λ m. bytesAt s base u m)) (sym (same-numbers s ns (T .placed .numbered) base u at (operationAt s at) (fine H)))
 
-  pub turn-room : Room o (operationBytes (tabled ns) base u s at (operationAt s at)) d
-  turn-room = room-front (operationBytes (tabled ns) base u s at (operationAt s at)) (following (afterOf (operationAt s at)) (λ m. bytesAt s base u m)) (rest-as (T .rest) _ parts)
+  pub turn-size : length (operationBytes (tabled ns) base u s at (operationAt s at)) ≡ operationSize u (operationAt s at)
+  turn-size = operation-size (tabled ns) base u s at (operationAt s at) (fine (T .placed .here))
+
+  pub turn-room : Room o (operationSize u (operationAt s at)) d
+  turn-room = room-as (sym turn-size) (room-front (operationBytes (tabled ns) base u s at (operationAt s at)) (following (afterOf (operationAt s at)) (λ m. bytesAt s base u m)) (rest-as (T .rest) _ parts))
 
   module _ {r : ℕ} {d′ : List ℕ} (W : Wrote o (operationBytes (tabled ns) base u s at (operationAt s at)) d r d′) {x : Operation} (e : x ≡ operationAt s at) {a : After} (ea : a ≡ afterOf x) where
     after-is : afterOf (operationAt s at) ≡ a
@@ -117,10 +120,10 @@ module _ {s ns : List ℕ} {base v at : ℕ} (P : Placed s ns base v at) where
     pub call-count : n ≤ 32
     call-count = fine-call .1
 
-module _ (s ns : List ℕ) (base : ℕ) (u : Under) (at : ℕ) {x y : Operation} (q : x ≡ y) where
-  pub arm-room : {o : ℕ} {d : List ℕ} → Room o (operationBytes (tabled ns) base u s at x) d → Room o (operationBytes (tabled ns) base u s at y) d
-  arm-room {o} {d} R = subst (λ (z : Operation). Room o (operationBytes (tabled ns) base u s at z) d) q R
+pub arm-room : (u : Under) {x y : Operation} → x ≡ y → {o : ℕ} {d : List ℕ} → Room o (operationSize u x) d → Room o (operationSize u y) d
+arm-room u q R = room-as (ap (operationSize u) (sym q)) R
 
+module _ (s ns : List ℕ) (base : ℕ) (u : Under) (at : ℕ) {x y : Operation} (q : x ≡ y) where
   pub arm-wrote : {o r : ℕ} {d d′ : List ℕ} → Wrote o (operationBytes (tabled ns) base u s at y) d r d′ → Wrote o (operationBytes (tabled ns) base u s at x) d r d′
   arm-wrote {o} {r} {d} {d′} W = subst (λ (z : Operation). Wrote o (operationBytes (tabled ns) base u s at z) d r d′) (sym q) W
 

@@ -25,8 +25,8 @@ use Rattle.translator_sizes.specs.declared.Fields.{Fields}
 use Rattle.translator.specs.Translated.{translationOf}
 use Rattle.translator_sizes.specs.Parts.{partBytes, fieldsOf, labelBytes, functionBytes, functionsBytes}
 use Rattle.translator_bytes.specs.Writes.{Room, Wrote}
-use Rattle.translator_bytes.specs.WriteLaws.{room-front, room-back, wrote-both}
-use Rattle.translator_bytes.specs.JumpLaws.{pair-as, pair-room}
+use Rattle.translator_bytes.specs.WriteLaws.{room-less, room-as, room-behind, room-behind-two, wrote-after}
+use Rattle.translator_bytes.specs.JumpLaws.{pair-as}
 use Rattle.translator.specs.Standing.{Placed, Numbered}
 use Rattle.translator_sizes.specs.PartLaws.{label-here, label-is}
 
@@ -173,36 +173,33 @@ version-kept {s} L ev =
     ev ∙ sym (first-version (programOf s) h ∙ loaded-invariant L .version 0 h)
 
 -- The whole file: mark, version, count, functions.
-module _ (s : List ℕ) {o n v : ℕ} {d : List ℕ} (ev : v ≡ codeVersion (translate (programOf s))) (e : n ≡ length (translate (programOf s))) (R : Room o (translationOf s) d) where
-  whole : Room o ((83 ∷ 80 ∷ 67 ∷ []) ++ ((v ∷ 0 ∷ []) ++ (pairBytes (length (translate (programOf s))) ++ functionsBytes s))) d
+module _ (s : List ℕ) {o : ℕ} {d : List ℕ} (R : Room o (length (translationOf s)) d) where
+  whole : Room o (7 + length (functionsBytes s)) d
+  whole = room-as (sym (translation-size s)) R
+
+  pub mark-room : Room o 3 d
+  mark-room = room-less whole (omega arith)
+
+  module _ {a : ℕ} {mark d₁ : List ℕ} (three : length mark ≡ 3) (W : Wrote o mark d a d₁) where
+    pub version-room : Room a 2 d₁
+    version-room = room-behind 2 whole W (omega arith)
+
+    module _ {b : ℕ} {version d₂ : List ℕ} (two : length version ≡ 2) (X : Wrote a version d₁ b d₂) where
+      third : Room b (2 + length (functionsBytes s)) d₂
+      third = room-behind-two (2 + length (functionsBytes s)) whole W X (omega arith)
+
+      pub targets-room : Room b 2 d₂
+      targets-room = room-less third (omega arith)
+
+      pub functions-room : {c : ℕ} {count d₃ : List ℕ} → length count ≡ 2 → Wrote b count d₂ c d₃ → Room c (length (functionsBytes s)) d₃
+      functions-room e Y = room-behind (length (functionsBytes s)) third Y (omega arith)
+
+  pub file-wrote : {n v a b c r : ℕ} {d₁ d₂ d₃ d₄ : List ℕ} → v ≡ codeVersion (translate (programOf s)) → n ≡ length (translate (programOf s))
+      → Wrote o (83 ∷ 80 ∷ 67 ∷ []) d a d₁ → Wrote a (v ∷ 0 ∷ []) d₁ b d₂ → Wrote b (pairBytes n) d₂ c d₃ → Wrote c (functionsBytes s) d₃ r d₄ → Wrote o (translationOf s) d r d₄
   unfolding translationOf writing functionsBytes
-  whole = rw ev R
-
-  pub mark-room : Room o (83 ∷ 80 ∷ 67 ∷ []) d
-  mark-room = room-front (83 ∷ 80 ∷ 67 ∷ []) ((v ∷ 0 ∷ []) ++ (pairBytes (length (translate (programOf s))) ++ functionsBytes s)) whole
-
-  module _ {a : ℕ} {d₁ : List ℕ} (W : Wrote o (83 ∷ 80 ∷ 67 ∷ []) d a d₁) where
-    second : Room a ((v ∷ 0 ∷ []) ++ (pairBytes (length (translate (programOf s))) ++ functionsBytes s)) d₁
-    second = room-back (83 ∷ 80 ∷ 67 ∷ []) ((v ∷ 0 ∷ []) ++ (pairBytes (length (translate (programOf s))) ++ functionsBytes s)) whole W
-
-    pub version-room : Room a (v ∷ 0 ∷ []) d₁
-    version-room = room-front (v ∷ 0 ∷ []) (pairBytes (length (translate (programOf s))) ++ functionsBytes s) second
-
-    module _ {b : ℕ} {d₂ : List ℕ} (X : Wrote a (v ∷ 0 ∷ []) d₁ b d₂) where
-      third : Room b (pairBytes (length (translate (programOf s))) ++ functionsBytes s) d₂
-      third = room-back (v ∷ 0 ∷ []) (pairBytes (length (translate (programOf s))) ++ functionsBytes s) second X
-
-      pub targets-room : Room b (pairBytes n) d₂
-      targets-room = pair-room e (room-front (pairBytes (length (translate (programOf s)))) (functionsBytes s) third)
-
-      module _ {c : ℕ} {d₃ : List ℕ} (Y : Wrote b (pairBytes n) d₂ c d₃) where
-        pub functions-room : Room c (functionsBytes s) d₃
-        functions-room = room-back (pairBytes (length (translate (programOf s)))) (functionsBytes s) third (pair-as e Y)
-
-        pub file-wrote : {r : ℕ} {d₄ : List ℕ} → Wrote c (functionsBytes s) d₃ r d₄ → Wrote o (translationOf s) d r d₄
-        unfolding translationOf writing functionsBytes
-        file-wrote Q =
-            rw (← ev)
-            (wrote-both (83 ∷ 80 ∷ 67 ∷ []) ((v ∷ 0 ∷ []) ++ (pairBytes (length (translate (programOf s))) ++ functionsBytes s)) whole W
-            (wrote-both (v ∷ 0 ∷ []) (pairBytes (length (translate (programOf s))) ++ functionsBytes s) second X
-            (wrote-both (pairBytes (length (translate (programOf s)))) (functionsBytes s) third (pair-as e Y) Q)))
+  file-wrote {v = v} ev e W X Y Q =
+      let count : List ℕ = pairBytes (length (translate (programOf s))) in
+      rw (← ev)
+      (wrote-after (83 ∷ 80 ∷ 67 ∷ []) ((v ∷ 0 ∷ []) ++ (count ++ functionsBytes s)) whole (omega arith) W
+      (wrote-after (v ∷ 0 ∷ []) (count ++ functionsBytes s) (version-room refl W) (omega arith) X
+      (wrote-after count (functionsBytes s) (targets-room refl W refl X) (omega arith) (pair-as e Y) Q)))

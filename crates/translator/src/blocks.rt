@@ -17,9 +17,10 @@ use procedure_operations::operation::operation_at;
 use translator_bytes::jumps;
 use translator_bytes::jumps::Under;
 ghost use mathlib.Core.Path.{_≡_};
+ghost use lib.ListN.{length};
 ghost use Rattle.procedure_operations.specs.Operation.{operationAt, argumentsAt};
 ghost use Rattle.translator_bytes.specs.Writes.{Room, Wrote};
-ghost use Rattle.translator_bytes.specs.Bytes.{tabled, callBytes, operationBytes};
+ghost use Rattle.translator_bytes.specs.Bytes.{tabled, callBytes, callSize, operationBytes, operationSize};
 ghost use Rattle.translator_sizes.specs.Parts.{bytesAt};
 ghost use Rattle.translator.specs.Standing.{Placed};
 
@@ -35,7 +36,7 @@ fn put_called(
     o: usize,
 ) -> usize
     requires { ⌜ Placed (now file) (now numbers) base (u .variables) at × (operationAt (now file) at ≡ Operation.Call (x .target .0) (x .function .0) (x .count) (x .next)) ⌝ }
-    requires { ⌜ Room o (callBytes base u (x .target .0) (tabled (now numbers) (x .function .0)) (x .count) (argumentsAt (now file) at (x .count))) (now out) ⌝ }
+    requires { ⌜ Room o (callSize u (x .count)) (now out) ⌝ }
     ensures { λ r. ⌜ Wrote o (callBytes base u (x .target .0) (tabled (now (numbers .entry)) (x .function .0)) (x .count) (argumentsAt (now (file .entry)) at (x .count))) (now (out .entry)) r (now (out .exit)) ⌝ }
 {
     let callee = x.function;
@@ -55,7 +56,7 @@ fn put_operation(
     o: usize,
 ) -> usize
     requires { ⌜ Placed (now file) (now numbers) base (u .variables) at ⌝ }
-    requires { ⌜ Room o (operationBytes (tabled (now numbers)) base u (now file) at (operationAt (now file) at)) (now out) ⌝ }
+    requires { ⌜ Room o (operationSize u (operationAt (now file) at)) (now out) ⌝ }
     ensures { λ r. ⌜ Wrote o (operationBytes (tabled (now (numbers .entry))) base u (now (file .entry)) at (operationAt (now (file .entry)) at)) (now (out .entry)) r (now (out .exit)) ⌝ }
 {
     let number = number_at(file, at);
@@ -104,7 +105,7 @@ pub fn put_block(
     o: usize,
 ) -> usize
     requires { ⌜ Placed (now file) (now numbers) base (u .variables) start ⌝ }
-    requires { ⌜ Room o (bytesAt (now file) base u start) (now out) ⌝ }
+    requires { ⌜ Room o (length (bytesAt (now file) base u start)) (now out) ⌝ }
     ensures { λ r. ⌜ Wrote o (bytesAt (now (file .entry)) base u start) (now (out .entry)) r (now (out .exit)) ⌝ }
 {
     let mut at = start;

@@ -33,7 +33,7 @@ fn put_part(
     o: usize,
 ) -> usize
     requires { ⌜ Placed (now file) (now numbers) base (u .variables) at × (p ≤ maxVariables) × (n ≤ 24) ⌝ }
-    requires { ⌜ Room o (partBytes (now file) base p n u at) (now out) ⌝ }
+    requires { ⌜ Room o (length (partBytes (now file) base p n u at)) (now out) ⌝ }
     ensures { λ r. ⌜ Wrote o (partBytes (now (file .entry)) base p n u at) (now (out .entry)) r (now (out .exit)) ⌝ }
 {
     let first = p + 2;
@@ -57,7 +57,7 @@ fn put_label(
 ) -> usize
     requires { ⌜ Loaded (now file) (now starts) × Numbered (now file) (now numbers) ⌝ }
     requires { ⌜ (f < length (programOf (now file))) × (l ≤ length (functionOf (programOf (now file)) f .blocks)) ⌝ }
-    requires { ⌜ Room o (labelBytes (now file) f l) (now out) ⌝ }
+    requires { ⌜ Room o (length (labelBytes (now file) f l)) (now out) ⌝ }
     ensures { λ r. ⌜ Wrote o (labelBytes (now (file .entry)) f l) (now (out .entry)) r (now (out .exit)) ⌝ }
 {
     let base = offset_number(numbers[f]);
@@ -86,7 +86,7 @@ fn put_function(
 ) -> usize
     requires { ⌜ Loaded (now file) (now starts) × Numbered (now file) (now numbers) ⌝ }
     requires { ⌜ f < length (programOf (now file)) ⌝ }
-    requires { ⌜ Room o (functionBytes (now file) f) (now out) ⌝ }
+    requires { ⌜ Room o (length (functionBytes (now file) f)) (now out) ⌝ }
     ensures { λ r. ⌜ Wrote o (functionBytes (now (file .entry)) f) (now (out .entry)) r (now (out .exit)) ⌝ }
 {
     let labels = byte_number(table::labels_of(file, starts, f));
@@ -108,7 +108,7 @@ fn put_functions(
     o: usize,
 ) -> usize
     requires { ⌜ Loaded (now file) (now starts) × Numbered (now file) (now numbers) ⌝ }
-    requires { ⌜ Room o (functionsBytes (now file)) (now out) ⌝ }
+    requires { ⌜ Room o (length (functionsBytes (now file))) (now out) ⌝ }
     ensures { λ r. ⌜ Wrote o (functionsBytes (now (file .entry))) (now (out .entry)) r (now (out .exit)) ⌝ }
 {
     let count = table::functions_of(file);
@@ -152,7 +152,7 @@ pub fn entry_number(file: &[u8], starts: &[u16; 2048], f: usize) -> usize
 // The whole translated file.
 pub fn put_file(file: &[u8], starts: &[u16; 2048], out: &mut [u8]) -> usize
     requires { ⌜ Loaded (now file) (now starts) ⌝ }
-    requires { ⌜ Room 0 (translationOf (now file)) (now out) ⌝ }
+    requires { ⌜ Room 0 (length (translationOf (now file))) (now out) ⌝ }
     ensures { λ r. ⌜ Wrote 0 (translationOf (now (file .entry))) (now (out .entry)) r (now (out .exit)) ⌝ }
 {
     let version = parsing::version_of(file);

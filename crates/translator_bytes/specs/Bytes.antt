@@ -57,8 +57,11 @@ raiseEnd base u =
 unfoldable pub raiseBytes : ℕ → Under → List ℕ
 raiseBytes base u = ifAny (u .bound) ((1 ∷ u .bound ∷ []) ++ (0 ∷ 0 ∷ 0 ∷ 0 ∷ [])) ++ raiseEnd base u
 
+unfoldable pub raiseEndSize : Under → ℕ
+raiseEndSize u = cond (eqb (u .handler) 0) (2 + sizeIfAny (u .number) 1) (6 + u .variables)
+
 unfoldable pub raiseSize : Under → ℕ
-raiseSize u = sizeIfAny (u .bound) 6 + cond (eqb (u .handler) 0) (2 + sizeIfAny (u .number) 1) (6 + u .variables)
+raiseSize u = sizeIfAny (u .bound) 6 + raiseEndSize u
 
 -- A variable's value raised: without a handler it leaves in its own slot, else it goes to the receiver, "even to itself".
 unfoldable pub raiseValueBytes : ℕ → Under → ℕ → List ℕ

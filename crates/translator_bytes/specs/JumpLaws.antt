@@ -1,10 +1,10 @@
 -- The forms with a jump, as they are written.
 use Prim.Native.Nat.{ℕ, _+_, _≤_, _<_}
 use native.Mathlib.Omega.{arith}
-use mathlib.Core.Path.{_≡_, sym, ap, _∙_, subst}
+use mathlib.Core.Path.{_≡_, refl, sym, ap, _∙_, subst}
 use mathlib.Core.List.{List, [], _∷_, _++_, map}
 use borrow.Author.Tests.{eq-eqb, ne-eqb}
-use lib.ListN.{length, getD, drop, drop-of-length-le}
+use lib.ListN.{length, getD, drop, length-map, drop-of-length-le}
 use Rattle.parsing.specs.Bytes.{pairBytes, valueBytes}
 use Rattle.parsing.specs.BytesLaws.{value-back}
 use Rattle.parsing.specs.Fields.{valueOf}
@@ -15,24 +15,22 @@ use Rattle.procedure_fields.specs.declared.fields.ConstantBytes.{ConstantBytes}
 use Rattle.procedure_fields.specs.Number.{countOf}
 use Rattle.procedure_fields.specs.NumberLaws.{argument-in-range}
 use Rattle.translator_bytes.specs.Writes.{Room, Wrote, CallStands}
-use Rattle.translator_bytes.specs.WriteLaws.{room-front, room-back, wrote-both, Rest, rest-none, rest-as, rest-more, rest-done, arguments-more}
-use Rattle.translator_bytes.specs.Bytes.{ifAny, sizeIfAny, labelJump, callJump, plainCall, guardedHead, guardedCall, branchBytes, raiseEnd, raiseBytes, raiseSize, raiseValueBytes, raiseValueSize, differenceBytes, callBytes}
+use Rattle.translator_bytes.specs.WriteLaws.{room-less, room-as, room-behind, room-behind-two, wrote-after, room-front, Rest, rest-none, rest-as, rest-more, rest-done, arguments-more}
+use Rattle.translator_bytes.specs.Bytes.{ifAny, sizeIfAny, labelJump, callJump, plainCall, guardedHead, guardedCall, branchBytes, raiseEnd, raiseEndSize, raiseBytes, raiseSize, raiseValueBytes, raiseValueSize, differenceBytes, callBytes, callSize}
+use Rattle.translator_bytes.specs.LengthLaws.{label-size, call-size, head-size}
 use Rattle.translator_bytes.specs.declared.jumps.Under.{Under}
 
 -- A jump's length, where the code has computed it.
 pub pair-as : {o j n r : ℕ} {d d′ : List ℕ} → j ≡ n → Wrote o (pairBytes j) d r d′ → Wrote o (pairBytes n) d r d′
 pair-as {o} {r = r} {d = d} {d′ = d′} e W = subst (λ (k : ℕ). Wrote o (pairBytes k) d r d′) e W
 
-pub pair-room : {o j n : ℕ} {d : List ℕ} → j ≡ n → Room o (pairBytes n) d → Room o (pairBytes j) d
-pair-room {o} {d = d} e R = subst (λ (k : ℕ). Room o (pairBytes k) d) (sym e) R
-
 -- The loop over a call's arguments, from the i-th on.
 pub record Passing (s : List ℕ) (at n o₀ : ℕ) (d₀ : List ℕ) (i o : ℕ) (d : List ℕ) : Type 0 where
   pub ready : CallStands s at n
   pub rest : Rest o₀ (map slotOf (argumentsAt s at n)) d₀ o (map slotOf (drop i (argumentsAt s at n))) d
 
-pub passing-none : {s : List ℕ} {at n o : ℕ} {d : List ℕ} → CallStands s at n → Room o (map slotOf (argumentsAt s at n)) d → Passing s at n o d 0 o d
-passing-none C R = record { ready = C; rest = rest-none R }
+pub passing-none : {s : List ℕ} {at n o : ℕ} {d : List ℕ} → CallStands s at n → Room o n d → Passing s at n o d 0 o d
+passing-none {s} {at} {n} C R = record { ready = C; rest = rest-none (room-as (length-map (argumentsAt s at n) slotOf ∙ C .long) R) }
 
 module _ {s : List ℕ} {at n o₀ : ℕ} {d₀ : List ℕ} {i o : ℕ} {d : List ℕ} (K : Passing s at n o₀ d₀ i o d) where
   pub passing-asks : i < n → (i < countOf (operationAt s at)) × NumbersInRange s at (operationAt s at)
@@ -50,7 +48,7 @@ module _ {s : List ℕ} {at n o₀ : ℕ} {d₀ : List ℕ} {i o : ℕ} {d : Lis
           let e : y ≡ getD (argumentsAt s at n) i 0 = ey ∙ ap (λ (k : ℕ). getD (argumentsAt s at k) i 0) (sym (K .ready .count)) in
           arguments-more (argumentsAt s at n) i t (omega arith) (et ∙ ap (λ (k : ℕ). k + 2) e)
 
-      pub passing-room : Room o (t ∷ []) d
+      pub passing-room : Room o 1 d
       passing-room = room-front (t ∷ []) (map slotOf (drop (i + 1) (argumentsAt s at n))) (rest-as (K .rest) _ first)
 
       pub passing-more : {r : ℕ} {d′ : List ℕ} → Wrote o (t ∷ []) d r d′ → Passing s at n o₀ d₀ (i + 1) r d′
@@ -60,124 +58,69 @@ module _ {s : List ℕ} {at n o₀ : ℕ} {d₀ : List ℕ} {i o : ℕ} {d : Lis
   passing-done h = let l : length (argumentsAt s at n) ≡ n = K .ready .long in rest-done (K .rest) (ap (map slotOf) (drop-of-length-le (argumentsAt s at n) {i = i} (omega arith)))
 
 -- A front, a length, and the part that it is the length of, as they are written one behind the other.
-module _ (front part : List ℕ) {n o j : ℕ} {d : List ℕ} (e : j ≡ n) (R : Room o (front ++ (pairBytes n ++ part)) d) {a : ℕ} {d₁ : List ℕ} (W : Wrote o front d a d₁) where
-  behind : Room a (pairBytes n ++ part) d₁
-  behind = room-back front (pairBytes n ++ part) R W
-
-  length-room : Room a (pairBytes j) d₁
-  length-room = pair-room e (room-front (pairBytes n) part behind)
-
-  module _ {b : ℕ} {d₂ : List ℕ} (X : Wrote a (pairBytes j) d₁ b d₂) where
-    part-room : Room b part d₂
-    part-room = room-back (pairBytes n) part behind (pair-as e X)
-
-    part-wrote : {r : ℕ} {d₃ : List ℕ} → Wrote b part d₂ r d₃ → Wrote o (front ++ (pairBytes n ++ part)) d r d₃
-    part-wrote Y = wrote-both front (pairBytes n ++ part) R W (wrote-both (pairBytes n) part behind (pair-as e X) Y)
+part-wrote : (front part : List ℕ) {n o j m a b r : ℕ} {d d₁ d₂ d₃ : List ℕ} → j ≡ n → Room o m d → length front + 2 ≤ m
+    → Wrote o front d a d₁ → Wrote a (pairBytes j) d₁ b d₂ → Wrote b part d₂ r d₃ → Wrote o (front ++ (pairBytes n ++ part)) d r d₃
+part-wrote front part {n} e R h W X Y =
+    wrote-after front (pairBytes n ++ part) R (omega arith) W (wrote-after (pairBytes n) part (room-behind 2 R W h) (omega arith) (pair-as e X) Y)
 
 -- Forms of several parts. The slot of a variable x is t.
-module _ (v x g n : ℕ) (ys : List ℕ) {t o j : ℕ} {d : List ℕ} (et : t ≡ x + 2) (e : j ≡ 6 + n) (R : Room o (plainCall v x g n ys) d) where
-  whole : Room o ((8 ∷ (v + 2) ∷ t ∷ []) ++ (pairBytes (6 + n) ++ callJump g (v + 2) 1 n ys)) d
+module _ (v x g n : ℕ) (ys : List ℕ) {t o j a b : ℕ} {d d₁ d₂ : List ℕ} (et : t ≡ x + 2) (e : j ≡ 6 + n) where
+  pub plain-wrote : Room o (5 + (6 + n)) d → Wrote o (8 ∷ (v + 2) ∷ t ∷ []) d a d₁ → Wrote a (pairBytes j) d₁ b d₂ → {r : ℕ} {d₃ : List ℕ}
+      → Wrote b (callJump g (v + 2) 1 n ys) d₂ r d₃ → Wrote o (plainCall v x g n ys) d r d₃
   unfolding plainCall
-  whole = rw et R
+  plain-wrote R W X Y = rw (← et) (part-wrote (8 ∷ (v + 2) ∷ t ∷ []) (callJump g (v + 2) 1 n ys) e R (omega arith) W X Y)
 
-  pub plain-room : Room o (8 ∷ (v + 2) ∷ t ∷ []) d
-  plain-room = room-front (8 ∷ (v + 2) ∷ t ∷ []) (pairBytes (6 + n) ++ callJump g (v + 2) 1 n ys) whole
+-- The room behind the slots of tag 9, and behind each part that follows: a length, a jump, a length.
+pub guarded-pair-room : (q n v : ℕ) {o a : ℕ} {head d d₁ : List ℕ} → Room o (8 + sizeIfAny q 1 + ((6 + n) + (6 + v))) d → length head ≡ 4 + sizeIfAny q 1 → Wrote o head d a d₁ → Room a 2 d₁
+guarded-pair-room q n v R slots W = room-behind 2 R W (omega arith)
 
-  module _ {a : ℕ} {d₁ : List ℕ} (W : Wrote o (8 ∷ (v + 2) ∷ t ∷ []) d a d₁) where
-    pub plain-pair-room : Room a (pairBytes j) d₁
-    plain-pair-room = length-room (8 ∷ (v + 2) ∷ t ∷ []) (callJump g (v + 2) 1 n ys) e whole W
+module _ (q n v : ℕ) {o a b : ℕ} {head pair d d₁ d₂ : List ℕ} (R : Room o (8 + sizeIfAny q 1 + ((6 + n) + (6 + v))) d) (slots : length head ≡ 4 + sizeIfAny q 1) (two : length pair ≡ 2)
+    (W : Wrote o head d a d₁) (X : Wrote a pair d₁ b d₂) where
+  behind-length : Room b ((6 + n) + (2 + (6 + v))) d₂
+  behind-length = room-behind-two ((6 + n) + (2 + (6 + v))) R W X (omega arith)
 
-    module _ {b : ℕ} {d₂ : List ℕ} (X : Wrote a (pairBytes j) d₁ b d₂) where
-      pub plain-jump-room : Room b (callJump g (v + 2) 1 n ys) d₂
-      plain-jump-room = part-room (8 ∷ (v + 2) ∷ t ∷ []) (callJump g (v + 2) 1 n ys) e whole W X
+  pub guarded-jump-room : Room b (6 + n) d₂
+  guarded-jump-room = room-less behind-length (omega arith)
 
-      pub plain-wrote : {r : ℕ} {d₃ : List ℕ} → Wrote b (callJump g (v + 2) 1 n ys) d₂ r d₃ → Wrote o (plainCall v x g n ys) d r d₃
-      unfolding plainCall
-      plain-wrote Y = rw (← et) (part-wrote (8 ∷ (v + 2) ∷ t ∷ []) (callJump g (v + 2) 1 n ys) e whole W X Y)
+  module _ {c : ℕ} {jump d₃ : List ℕ} (long : length jump ≡ 6 + n) (Y : Wrote b jump d₂ c d₃) where
+    pub guarded-length-room : Room c 2 d₃
+    guarded-length-room = room-behind 2 behind-length Y (omega arith)
 
-module _ (base : ℕ) (u : Under) (x g n : ℕ) (ys : List ℕ) {t o j k : ℕ} {d : List ℕ} (et : t ≡ x + 2) (e : j ≡ 6 + n) (ek : k ≡ 6 + u .variables) (R : Room o (guardedCall base u x g n ys) d) where
-  -- What the first length counts, and what follows it.
-  abbrev tail : List ℕ
-  tail = callJump g (u .variables + 2) (u .variables + 3) n ys ++ (pairBytes (6 + u .variables) ++ labelJump base (u .variables) (u .handler))
+    pub guarded-label-room : {f : ℕ} {w d₄ : List ℕ} → length w ≡ 2 → Wrote c w d₃ f d₄ → Room f (6 + v) d₄
+    guarded-label-room e Z = room-behind-two (6 + v) behind-length Y Z (omega arith)
 
-  all : Room o (guardedHead (u .variables + 2) t (u .variables + 3) (u .number) ++ (pairBytes (6 + n) ++ tail)) d
+module _ (base : ℕ) (u : Under) (x g n : ℕ) (ys : List ℕ) {t o j k a b c f : ℕ} {d d₁ d₂ d₃ d₄ : List ℕ} (et : t ≡ x + 2) (e : j ≡ 6 + n) (ek : k ≡ 6 + u .variables) (long : length ys ≡ n)
+    (R : Room o (8 + sizeIfAny (u .number) 1 + ((6 + n) + (6 + u .variables))) d) (W : Wrote o (guardedHead (u .variables + 2) t (u .variables + 3) (u .number)) d a d₁) (X : Wrote a (pairBytes j) d₁ b d₂)
+    (Y : Wrote b (callJump g (u .variables + 2) (u .variables + 3) n ys) d₂ c d₃) (Z : Wrote c (pairBytes k) d₃ f d₄) where
+  pub guarded-wrote : {r : ℕ} {d₅ : List ℕ} → Wrote f (labelJump base (u .variables) (u .handler)) d₄ r d₅ → Wrote o (guardedCall base u x g n ys) d r d₅
   unfolding guardedCall
-  all = rw et R
+  guarded-wrote Q =
+      let v = u .variables in
+      let head = guardedHead (v + 2) t (v + 3) (u .number) in
+      let slots : length head ≡ 4 + sizeIfAny (u .number) 1 = head-size (v + 2) t (v + 3) (u .number) in
+      let jump = callJump g (v + 2) (v + 3) n ys in
+      let whole : length jump ≡ 6 + n = call-size g (v + 2) (v + 3) n ys long in
+      let label = labelJump base v (u .handler) in
+      rw (← et)
+      (part-wrote head (jump ++ (pairBytes (6 + v) ++ label)) e R (omega arith) W X
+      (part-wrote jump label ek (behind-length (u .number) n v R slots refl W X) (omega arith) Y Z Q))
 
-  pub guarded-room : Room o (guardedHead (u .variables + 2) t (u .variables + 3) (u .number)) d
-  guarded-room = room-front (guardedHead (u .variables + 2) t (u .variables + 3) (u .number)) (pairBytes (6 + n) ++ tail) all
-
-  module _ {a : ℕ} {d₁ : List ℕ} (W : Wrote o (guardedHead (u .variables + 2) t (u .variables + 3) (u .number)) d a d₁) where
-    pub guarded-pair-room : Room a (pairBytes j) d₁
-    guarded-pair-room = length-room (guardedHead (u .variables + 2) t (u .variables + 3) (u .number)) tail e all W
-
-    module _ {b : ℕ} {d₂ : List ℕ} (X : Wrote a (pairBytes j) d₁ b d₂) where
-      rest-room : Room b tail d₂
-      rest-room = part-room (guardedHead (u .variables + 2) t (u .variables + 3) (u .number)) tail e all W X
-
-      pub guarded-jump-room : Room b (callJump g (u .variables + 2) (u .variables + 3) n ys) d₂
-      guarded-jump-room = room-front (callJump g (u .variables + 2) (u .variables + 3) n ys) (pairBytes (6 + u .variables) ++ labelJump base (u .variables) (u .handler)) rest-room
-
-      module _ {c : ℕ} {d₃ : List ℕ} (Y : Wrote b (callJump g (u .variables + 2) (u .variables + 3) n ys) d₂ c d₃) where
-        pub guarded-length-room : Room c (pairBytes k) d₃
-        guarded-length-room = length-room (callJump g (u .variables + 2) (u .variables + 3) n ys) (labelJump base (u .variables) (u .handler)) ek rest-room Y
-
-        module _ {f : ℕ} {d₄ : List ℕ} (Z : Wrote c (pairBytes k) d₃ f d₄) where
-          pub guarded-label-room : Room f (labelJump base (u .variables) (u .handler)) d₄
-          guarded-label-room = part-room (callJump g (u .variables + 2) (u .variables + 3) n ys) (labelJump base (u .variables) (u .handler)) ek rest-room Y Z
-
-          pub guarded-wrote : {r : ℕ} {d₅ : List ℕ} → Wrote f (labelJump base (u .variables) (u .handler)) d₄ r d₅ → Wrote o (guardedCall base u x g n ys) d r d₅
-          unfolding guardedCall
-          guarded-wrote Q = rw (← et) (part-wrote (guardedHead (u .variables + 2) t (u .variables + 3) (u .number)) tail e all W X (part-wrote (callJump g (u .variables + 2) (u .variables + 3) n ys) (labelJump base (u .variables) (u .handler)) ek rest-room Y Z Q))
-
-module _ (base v y z l m : ℕ) {t u o j : ℕ} {d : List ℕ} (et : t ≡ y + 2) (eu : u ≡ z + 2) (e : j ≡ 6 + v) (R : Room o (branchBytes base v y z l m) d) where
-  entire : Room o ((7 ∷ t ∷ u ∷ []) ++ (pairBytes (6 + v) ++ (labelJump base v l ++ labelJump base v m))) d
+module _ (base v y z l m : ℕ) {t u o j a b c : ℕ} {d d₁ d₂ d₃ : List ℕ} (et : t ≡ y + 2) (eu : u ≡ z + 2) (e : j ≡ 6 + v) (R : Room o (5 + ((6 + v) + (6 + v))) d) where
+  pub branch-wrote : Wrote o (7 ∷ t ∷ u ∷ []) d a d₁ → Wrote a (pairBytes j) d₁ b d₂ → Wrote b (labelJump base v l) d₂ c d₃ → {r : ℕ} {d₄ : List ℕ}
+      → Wrote c (labelJump base v m) d₃ r d₄ → Wrote o (branchBytes base v y z l m) d r d₄
   unfolding branchBytes
-  entire = rw (et, eu) R
+  branch-wrote W X Y Q =
+      let then = labelJump base v l in
+      let whole : length then ≡ 6 + v = label-size base v l in
+      rw (← et, ← eu)
+      (part-wrote (7 ∷ t ∷ u ∷ []) (then ++ labelJump base v m) e R (omega arith) W X
+      (wrote-after then (labelJump base v m) (room-behind-two ((6 + v) + (6 + v)) R W X (omega arith)) (omega arith) Y Q))
 
-  pub branch-room : Room o (7 ∷ t ∷ u ∷ []) d
-  branch-room = room-front (7 ∷ t ∷ u ∷ []) (pairBytes (6 + v) ++ (labelJump base v l ++ labelJump base v m)) entire
-
-  module _ {a : ℕ} {d₁ : List ℕ} (W : Wrote o (7 ∷ t ∷ u ∷ []) d a d₁) where
-    pub branch-pair-room : Room a (pairBytes j) d₁
-    branch-pair-room = length-room (7 ∷ t ∷ u ∷ []) (labelJump base v l ++ labelJump base v m) e entire W
-
-    module _ {b : ℕ} {d₂ : List ℕ} (X : Wrote a (pairBytes j) d₁ b d₂) where
-      both-room : Room b (labelJump base v l ++ labelJump base v m) d₂
-      both-room = part-room (7 ∷ t ∷ u ∷ []) (labelJump base v l ++ labelJump base v m) e entire W X
-
-      pub branch-then-room : Room b (labelJump base v l) d₂
-      branch-then-room = room-front (labelJump base v l) (labelJump base v m) both-room
-
-      module _ {c : ℕ} {d₃ : List ℕ} (Y : Wrote b (labelJump base v l) d₂ c d₃) where
-        pub branch-else-room : Room c (labelJump base v m) d₃
-        branch-else-room = room-back (labelJump base v l) (labelJump base v m) both-room Y
-
-        pub branch-wrote : {r : ℕ} {d₄ : List ℕ} → Wrote c (labelJump base v m) d₃ r d₄ → Wrote o (branchBytes base v y z l m) d r d₄
-        unfolding branchBytes
-        branch-wrote Q =
-            rw (← et, ← eu)
-            (part-wrote (7 ∷ t ∷ u ∷ []) (labelJump base v l ++ labelJump base v m) e entire W X (wrote-both (labelJump base v l) (labelJump base v m) both-room Y Q))
-
-module _ (base : ℕ) (u : Under) (x y z : ℕ) {t p w o j : ℕ} {d : List ℕ} (et : t ≡ x + 2) (ep : p ≡ y + 2) (ew : w ≡ z + 2) (e : j ≡ raiseSize u) (R : Room o (differenceBytes base u x y z) d) where
-  full : Room o ((10 ∷ t ∷ p ∷ w ∷ []) ++ (pairBytes (raiseSize u) ++ raiseBytes base u)) d
+module _ (base : ℕ) (u : Under) (x y z : ℕ) {t p w o j a b : ℕ} {d d₁ d₂ : List ℕ} (et : t ≡ x + 2) (ep : p ≡ y + 2) (ew : w ≡ z + 2) (e : j ≡ raiseSize u) where
+  pub difference-wrote : Room o (6 + raiseSize u) d → Wrote o (10 ∷ t ∷ p ∷ w ∷ []) d a d₁ → Wrote a (pairBytes j) d₁ b d₂ → {r : ℕ} {d₃ : List ℕ}
+      → Wrote b (raiseBytes base u) d₂ r d₃ → Wrote o (differenceBytes base u x y z) d r d₃
   unfolding differenceBytes
-  full = rw (et, ep, ew) R
-
-  pub difference-room : Room o (10 ∷ t ∷ p ∷ w ∷ []) d
-  difference-room = room-front (10 ∷ t ∷ p ∷ w ∷ []) (pairBytes (raiseSize u) ++ raiseBytes base u) full
-
-  module _ {a : ℕ} {d₁ : List ℕ} (W : Wrote o (10 ∷ t ∷ p ∷ w ∷ []) d a d₁) where
-    pub difference-pair-room : Room a (pairBytes j) d₁
-    difference-pair-room = length-room (10 ∷ t ∷ p ∷ w ∷ []) (raiseBytes base u) e full W
-
-    module _ {b : ℕ} {d₂ : List ℕ} (X : Wrote a (pairBytes j) d₁ b d₂) where
-      pub difference-raise-room : Room b (raiseBytes base u) d₂
-      difference-raise-room = part-room (10 ∷ t ∷ p ∷ w ∷ []) (raiseBytes base u) e full W X
-
-      pub difference-wrote : {r : ℕ} {d₃ : List ℕ} → Wrote b (raiseBytes base u) d₂ r d₃ → Wrote o (differenceBytes base u x y z) d r d₃
-      unfolding differenceBytes
-      difference-wrote Q = rw (← et, ← ep, ← ew) (part-wrote (10 ∷ t ∷ p ∷ w ∷ []) (raiseBytes base u) e full W X Q)
+  difference-wrote R W X Q = rw (← et, ← ep, ← ew) (part-wrote (10 ∷ t ∷ p ∷ w ∷ []) (raiseBytes base u) e R (omega arith) W X Q)
 
 -- By the handler in force.
 module _ (base : ℕ) (u : Under) (x g n : ℕ) (ys : List ℕ) where
@@ -207,13 +150,17 @@ module _ (base : ℕ) (u : Under) where
   value-caught-as y e = rw (ne-eqb (u .handler) 0 e)
 
 module _ (u : Under) where
-  pub uncaught-sum : {a b : ℕ} → u .handler ≡ 0 → a ≡ sizeIfAny (u .bound) 6 → b ≡ sizeIfAny (u .number) 1 → a + (2 + b) ≡ raiseSize u
-  unfolding raiseSize
-  uncaught-sum e p q = rw (eq-eqb (u .handler) 0 e, p, q)
+  pub uncaught-end : {b : ℕ} → u .handler ≡ 0 → b ≡ sizeIfAny (u .number) 1 → 2 + b ≡ raiseEndSize u
+  unfolding raiseEndSize
+  uncaught-end e q = rw (eq-eqb (u .handler) 0 e, q)
 
-  pub caught-sum : {a j : ℕ} → (u .handler ≡ 0 → ⊥) → a ≡ sizeIfAny (u .bound) 6 → j ≡ 6 + u .variables → a + j ≡ raiseSize u
+  pub caught-end : {j : ℕ} → (u .handler ≡ 0 → ⊥) → j ≡ 6 + u .variables → j ≡ raiseEndSize u
+  unfolding raiseEndSize
+  caught-end e q = rw (ne-eqb (u .handler) 0 e, q)
+
+  pub raise-sum : {a b : ℕ} → a ≡ sizeIfAny (u .bound) 6 → b ≡ raiseEndSize u → a + b ≡ raiseSize u
   unfolding raiseSize
-  caught-sum e p q = rw (ne-eqb (u .handler) 0 e, p, q)
+  raise-sum p q = rw (p, q)
 
   pub value-uncaught-sum : u .handler ≡ 0 → 3 ≡ raiseValueSize u
   unfolding raiseValueSize
@@ -222,6 +169,14 @@ module _ (u : Under) where
   pub value-caught-sum : {a j : ℕ} → (u .handler ≡ 0 → ⊥) → a ≡ sizeIfAny (u .bound) 3 → j ≡ 6 + u .variables → a + j ≡ raiseValueSize u
   unfolding raiseValueSize
   value-caught-sum e p q = rw (ne-eqb (u .handler) 0 e, p, q)
+
+  pub plain-sum : (n : ℕ) {j : ℕ} → u .handler ≡ 0 → j ≡ 6 + n → 5 + j ≡ callSize u n
+  unfolding callSize
+  plain-sum n e q = rw (eq-eqb (u .handler) 0 e, q)
+
+  pub guarded-sum : (n : ℕ) {j k i : ℕ} → (u .handler ≡ 0 → ⊥) → j ≡ 6 + n → k ≡ 6 + u .variables → i ≡ sizeIfAny (u .number) 1 → 8 + i + (j + k) ≡ callSize u n
+  unfolding callSize
+  guarded-sum n e q r t = rw (ne-eqb (u .handler) 0 e, q, r, t)
 
 -- By whether there is a slot.
 module _ (slot : ℕ) where
@@ -245,9 +200,6 @@ module _ (slot : ℕ) where
   unfolding sizeIfAny
   any-sum n e = rw (ne-eqb slot 0 e)
 
-pub room-as : {o : ℕ} {w w′ d : List ℕ} → w ≡ w′ → Room o w d → Room o w′ d
-room-as {o} {d = d} e R = subst (λ (y : List ℕ). Room o y d) e R
-
 pub wrote-as : {o r : ℕ} {w w′ d d′ : List ℕ} → w ≡ w′ → Wrote o w′ d r d′ → Wrote o w d r d′
 wrote-as {o} {r} {d = d} {d′ = d′} e W = subst (λ (y : List ℕ). Wrote o y d r d′) (sym e) W
 
@@ -255,21 +207,10 @@ wrote-as {o} {r} {d = d} {d′ = d′} e W = subst (λ (y : List ℕ). Wrote o y
 abbrev pub ValueFits : ConstantBytes → Type 0
 ValueFits x = (x .b0 < 256) × (x .b1 < 256) × (x .b2 < 256) × (x .b3 < 256)
 
-module _ (x : ConstantBytes) {t o : ℕ} {d : List ℕ} (et : t ≡ x .target .0 + 2)
-    (R : Room o ((1 ∷ (x .target .0 + 2) ∷ []) ++ valueBytes (valueOf (x .b0) (x .b1) (x .b2) (x .b3))) d) where
-  complete : Room o ((1 ∷ t ∷ []) ++ valueBytes (valueOf (x .b0) (x .b1) (x .b2) (x .b3))) d
-  complete = rw et R
+module _ (x : ConstantBytes) (fits : ValueFits x) where
+  four : valueBytes (valueOf (x .b0) (x .b1) (x .b2) (x .b3)) ≡ x .b0 ∷ x .b1 ∷ x .b2 ∷ x .b3 ∷ []
+  four = value-back (x .b0) (x .b1) (x .b2) (x .b3) (fits .0) (fits .1) (fits .2) (fits .3)
 
-  pub constant-two-room : Room o (1 ∷ t ∷ []) d
-  constant-two-room = room-front (1 ∷ t ∷ []) (valueBytes (valueOf (x .b0) (x .b1) (x .b2) (x .b3))) complete
-
-  module _ (fits : ValueFits x) {a : ℕ} {d₁ : List ℕ} (W : Wrote o (1 ∷ t ∷ []) d a d₁) where
-    four : valueBytes (valueOf (x .b0) (x .b1) (x .b2) (x .b3)) ≡ x .b0 ∷ x .b1 ∷ x .b2 ∷ x .b3 ∷ []
-    four = value-back (x .b0) (x .b1) (x .b2) (x .b3) (fits .0) (fits .1) (fits .2) (fits .3)
-
-    pub constant-four-room : Room a (x .b0 ∷ x .b1 ∷ x .b2 ∷ x .b3 ∷ []) d₁
-    constant-four-room = room-as four (room-back (1 ∷ t ∷ []) (valueBytes (valueOf (x .b0) (x .b1) (x .b2) (x .b3))) complete W)
-
-    pub constant-wrote : {r : ℕ} {d₂ : List ℕ} → Wrote a (x .b0 ∷ x .b1 ∷ x .b2 ∷ x .b3 ∷ []) d₁ r d₂
-        → Wrote o ((1 ∷ (x .target .0 + 2) ∷ []) ++ valueBytes (valueOf (x .b0) (x .b1) (x .b2) (x .b3))) d r d₂
-    constant-wrote Y = rw (← et) (wrote-both (1 ∷ t ∷ []) (valueBytes (valueOf (x .b0) (x .b1) (x .b2) (x .b3))) complete W (wrote-as four Y))
+  pub constant-wrote : {t o a r : ℕ} {d d₁ d₂ : List ℕ} → t ≡ x .target .0 + 2 → Room o 6 d → Wrote o (1 ∷ t ∷ []) d a d₁ → Wrote a (x .b0 ∷ x .b1 ∷ x .b2 ∷ x .b3 ∷ []) d₁ r d₂
+      → Wrote o ((1 ∷ (x .target .0 + 2) ∷ []) ++ valueBytes (valueOf (x .b0) (x .b1) (x .b2) (x .b3))) d r d₂
+  constant-wrote {t} et R W Y = rw (← et) (wrote-after (1 ∷ t ∷ []) (valueBytes (valueOf (x .b0) (x .b1) (x .b2) (x .b3))) R (omega arith) W (wrote-as four Y))

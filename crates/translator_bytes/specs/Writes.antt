@@ -9,10 +9,10 @@ use Rattle.procedure_operations.specs.Operation.{operationAt, argumentsAt}
 use Rattle.procedure_operations.specs.Ranges.{NumbersInRange}
 use Rattle.procedure_fields.specs.Number.{countOf}
 
--- There is room for w at an offset of the output d, within the limit of a translated file.
-pub record Room (o : ℕ) (w d : List ℕ) : Type 0 where
-  pub fits : o + length w ≤ length d
-  pub small : o + length w ≤ fileLimit
+-- There is room for n bytes at an offset of the output d, within the limit of a translated file.
+pub record Room (o n : ℕ) (d : List ℕ) : Type 0 where
+  pub fits : o + n ≤ length d
+  pub small : o + n ≤ fileLimit
 
 -- w was written at an offset o of d, which is now d′; r is the offset past it.
 pub record Wrote (o : ℕ) (w d : List ℕ) (r : ℕ) (d′ : List ℕ) : Type 0 where

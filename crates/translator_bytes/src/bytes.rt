@@ -3,7 +3,7 @@ use procedure_fields::fields::argument_at;
 use procedure_operations::numbers::VariableNumber;
 ghost use mathlib.Core.Path.{_≡_};
 ghost use mathlib.Core.List.{[], _∷_, _++_, map};
-ghost use Prim.Native.Nat.{_+_, _<_, _≤_};
+ghost use Prim.Native.Nat.{_+_, _*_, _<_, _≤_};
 ghost use Rattle.parsing.specs.Bytes.{pairBytes};
 ghost use Rattle.semantics.specs.Translation.{slotOf, slotsFrom};
 ghost use Rattle.procedure_operations.specs.Numbers.{maxVariables};
@@ -12,7 +12,7 @@ ghost use Rattle.translator_bytes.specs.Writes.{Room, Wrote, CallStands}
 ghost use Rattle.translator_bytes.specs.Bytes.{zeros};
 
 pub fn put_one(out: &mut [u8], o: usize, x: u8) -> usize
-    requires { ⌜ Room o (x ∷ []) (now out) ⌝ }
+    requires { ⌜ Room o 1 (now out) ⌝ }
     ensures { λ r. ⌜ Wrote o (x ∷ []) (now (out .entry)) r (now (out .exit)) ⌝ }
 {
     let next = o + 1;
@@ -21,7 +21,7 @@ pub fn put_one(out: &mut [u8], o: usize, x: u8) -> usize
 }
 
 pub fn put_two(out: &mut [u8], o: usize, x: u8, y: u8) -> usize
-    requires { ⌜ Room o (x ∷ y ∷ []) (now out) ⌝ }
+    requires { ⌜ Room o 2 (now out) ⌝ }
     ensures { λ r. ⌜ Wrote o (x ∷ y ∷ []) (now (out .entry)) r (now (out .exit)) ⌝ }
 {
     let second = o + 1;
@@ -32,7 +32,7 @@ pub fn put_two(out: &mut [u8], o: usize, x: u8, y: u8) -> usize
 }
 
 pub fn put_three(out: &mut [u8], o: usize, x: u8, y: u8, z: u8) -> usize
-    requires { ⌜ Room o (x ∷ y ∷ z ∷ []) (now out) ⌝ }
+    requires { ⌜ Room o 3 (now out) ⌝ }
     ensures { λ r. ⌜ Wrote o (x ∷ y ∷ z ∷ []) (now (out .entry)) r (now (out .exit)) ⌝ }
 {
     let second = o + 1;
@@ -45,7 +45,7 @@ pub fn put_three(out: &mut [u8], o: usize, x: u8, y: u8, z: u8) -> usize
 }
 
 pub fn put_four(out: &mut [u8], o: usize, x: u8, y: u8, z: u8, w: u8) -> usize
-    requires { ⌜ Room o (x ∷ y ∷ z ∷ w ∷ []) (now out) ⌝ }
+    requires { ⌜ Room o 4 (now out) ⌝ }
     ensures { λ r. ⌜ Wrote o (x ∷ y ∷ z ∷ w ∷ []) (now (out .entry)) r (now (out .exit)) ⌝ }
 {
     let second = o + 1;
@@ -62,7 +62,7 @@ pub fn put_four(out: &mut [u8], o: usize, x: u8, y: u8, z: u8, w: u8) -> usize
 // A field of 16 bits, the low byte first.
 pub fn put_pair(out: &mut [u8], o: usize, n: usize) -> usize
     requires { ⌜ n < 65536 ⌝ }
-    requires { ⌜ Room o (pairBytes n) (now out) ⌝ }
+    requires { ⌜ Room o 2 (now out) ⌝ }
     ensures { λ r. ⌜ Wrote o (pairBytes n) (now (out .entry)) r (now (out .exit)) ⌝ }
 {
     let low = (n % 256) as u8;
@@ -73,7 +73,7 @@ pub fn put_pair(out: &mut [u8], o: usize, n: usize) -> usize
 // The n slots from `first` upward.
 pub fn put_slots(out: &mut [u8], o: usize, first: u8, n: u8) -> usize
     requires { ⌜ first + n ≤ 255 ⌝ }
-    requires { ⌜ Room o (slotsFrom first n) (now out) ⌝ }
+    requires { ⌜ Room o n (now out) ⌝ }
     ensures { λ r. ⌜ Wrote o (slotsFrom first n) (now (out .entry)) r (now (out .exit)) ⌝ }
 {
     let mut place = o;
@@ -99,7 +99,7 @@ pub fn slot_of(x: VariableNumber) -> u8
 // The slots of the n arguments of the call at an offset.
 pub fn put_arguments(file: &[u8], at: usize, out: &mut [u8], o: usize, n: u8) -> usize
     requires { ⌜ CallStands (now file) at n ⌝ }
-    requires { ⌜ Room o (map slotOf (argumentsAt (now file) at n)) (now out) ⌝ }
+    requires { ⌜ Room o n (now out) ⌝ }
     ensures { λ r. ⌜ Wrote o (map slotOf (argumentsAt (now (file .entry)) at n)) (now (out .entry)) r (now (out .exit)) ⌝ }
 {
     let count = n as usize;
@@ -116,7 +116,7 @@ pub fn put_arguments(file: &[u8], at: usize, out: &mut [u8], o: usize, n: u8) ->
 // n locals from slot `first` on, bound to 0.
 pub fn put_zeros(out: &mut [u8], o: usize, first: u8, n: u8) -> usize
     requires { ⌜ first + n ≤ 255 ⌝ }
-    requires { ⌜ Room o (zeros first n) (now out) ⌝ }
+    requires { ⌜ Room o (6 * n) (now out) ⌝ }
     ensures { λ r. ⌜ Wrote o (zeros first n) (now (out .entry)) r (now (out .exit)) ⌝ }
 {
     let mut place = o;
@@ -132,7 +132,7 @@ pub fn put_zeros(out: &mut [u8], o: usize, first: u8, n: u8) -> usize
 
 // A slot bound to 0.
 pub fn put_zero(out: &mut [u8], o: usize, slot: u8) -> usize
-    requires { ⌜ Room o ((1 ∷ slot ∷ []) ++ (0 ∷ 0 ∷ 0 ∷ 0 ∷ [])) (now out) ⌝ }
+    requires { ⌜ Room o 6 (now out) ⌝ }
     ensures { λ r. ⌜ Wrote o ((1 ∷ slot ∷ []) ++ (0 ∷ 0 ∷ 0 ∷ 0 ∷ [])) (now (out .entry)) r (now (out .exit)) ⌝ }
 {
     let value = put_two(out, o, 1, slot);

@@ -10,7 +10,7 @@ ghost use Rattle.parsing.specs.Bytes.{valueBytes};
 ghost use Rattle.procedure_operations.specs.Numbers.{maxVariables};
 ghost use Rattle.procedure_operations.specs.Operation.{argumentsAt};
 ghost use Rattle.translator_bytes.specs.Writes.{Room, Wrote, CallStands};
-ghost use Rattle.translator_bytes.specs.Bytes.{ifAny, sizeIfAny, jumpHead, labelJump, callJump, plainCall, guardedHead, guardedCall, branchBytes, raiseEnd, raiseBytes, raiseSize, raiseValueBytes, raiseValueSize, differenceBytes, callBytes};
+ghost use Rattle.translator_bytes.specs.Bytes.{ifAny, sizeIfAny, jumpHead, labelJump, callJump, plainCall, guardedHead, guardedCall, branchBytes, raiseEnd, raiseEndSize, raiseBytes, raiseSize, raiseValueBytes, raiseValueSize, differenceBytes, callBytes, callSize};
 
 // What a block is translated under: the count of variables, the handler in force (0 for none), and two slots (0 for none): the one that a raise there binds first,
 // and the one in which a raised number goes on.
@@ -30,7 +30,7 @@ pub fn size_if_any(slot: u8, n: usize) -> usize
 
 // The byte of a slot, if any.
 fn put_slot_if_any(out: &mut [u8], o: usize, slot: u8) -> usize
-    requires { ⌜ Room o (ifAny slot (slot ∷ [])) (now out) ⌝ }
+    requires { ⌜ Room o (sizeIfAny slot 1) (now out) ⌝ }
     ensures { λ r. ⌜ Wrote o (ifAny slot (slot ∷ [])) (now (out .entry)) r (now (out .exit)) ⌝ }
 {
     if slot == 0 {
@@ -42,7 +42,7 @@ fn put_slot_if_any(out: &mut [u8], o: usize, slot: u8) -> usize
 
 // A slot, if any, bound to 0.
 fn put_zero_if_any(out: &mut [u8], o: usize, slot: u8) -> usize
-    requires { ⌜ Room o (ifAny slot ((1 ∷ slot ∷ []) ++ (0 ∷ 0 ∷ 0 ∷ 0 ∷ []))) (now out) ⌝ }
+    requires { ⌜ Room o (sizeIfAny slot 6) (now out) ⌝ }
     ensures { λ r. ⌜ Wrote o (ifAny slot ((1 ∷ slot ∷ []) ++ (0 ∷ 0 ∷ 0 ∷ 0 ∷ []))) (now (out .entry)) r (now (out .exit)) ⌝ }
 {
     if slot == 0 {
@@ -55,7 +55,7 @@ fn put_zero_if_any(out: &mut [u8], o: usize, slot: u8) -> usize
 // A slot, if any, bound to a variable's value.
 fn put_value_if_any(out: &mut [u8], o: usize, slot: u8, y: VariableNumber) -> usize
     requires { ⌜ y .0 < maxVariables ⌝ }
-    requires { ⌜ Room o (ifAny slot (2 ∷ slot ∷ (y .0 + 2) ∷ [])) (now out) ⌝ }
+    requires { ⌜ Room o (sizeIfAny slot 3) (now out) ⌝ }
     ensures { λ r. ⌜ Wrote o (ifAny slot (2 ∷ slot ∷ (y .0 + 2) ∷ [])) (now (out .entry)) r (now (out .exit)) ⌝ }
 {
     let from = bytes::slot_of(y);
@@ -76,7 +76,7 @@ pub fn jump_size(values: usize) -> usize
 
 fn put_jump_head(out: &mut [u8], o: usize, g: usize, k: u8, h: u8, n: u8) -> usize
     requires { ⌜ g < 65536 ⌝ }
-    requires { ⌜ Room o (jumpHead g k h n) (now out) ⌝ }
+    requires { ⌜ Room o 6 (now out) ⌝ }
     ensures { λ r. ⌜ Wrote o (jumpHead g k h n) (now (out .entry)) r (now (out .exit)) ⌝ }
 {
     let a = bytes::put_one(out, o, 4);
@@ -87,7 +87,7 @@ fn put_jump_head(out: &mut [u8], o: usize, g: usize, k: u8, h: u8, n: u8) -> usi
 // The jump to a label with all of v variables.
 pub fn put_label_jump(out: &mut [u8], o: usize, base: usize, v: u8, l: u8) -> usize
     requires { ⌜ (base ≤ 2048) × (v ≤ maxVariables) ⌝ }
-    requires { ⌜ Room o (labelJump base v l) (now out) ⌝ }
+    requires { ⌜ Room o (6 + v) (now out) ⌝ }
     ensures { λ r. ⌜ Wrote o (labelJump base v l) (now (out .entry)) r (now (out .exit)) ⌝ }
 {
     let g = base + (l as usize);
@@ -107,7 +107,7 @@ fn put_call_jump(
     n: u8,
 ) -> usize
     requires { ⌜ (g < 65536) × CallStands (now file) at n ⌝ }
-    requires { ⌜ Room o (callJump g k h n (argumentsAt (now file) at n)) (now out) ⌝ }
+    requires { ⌜ Room o (6 + n) (now out) ⌝ }
     ensures { λ r. ⌜ Wrote o (callJump g k h n (argumentsAt (now (file .entry)) at n)) (now (out .entry)) r (now (out .exit)) ⌝ }
 {
     let a = put_jump_head(out, o, g, k, h, n);
@@ -125,7 +125,7 @@ fn put_plain_call(
     n: u8,
 ) -> usize
     requires { ⌜ (v ≤ maxVariables) × (x .0 < maxVariables) × (n ≤ maxVariables) × (g < 65536) × CallStands (now file) at n ⌝ }
-    requires { ⌜ Room o (plainCall v (x .0) g n (argumentsAt (now file) at n)) (now out) ⌝ }
+    requires { ⌜ Room o (5 + (6 + n)) (now out) ⌝ }
     ensures { λ r. ⌜ Wrote o (plainCall v (x .0) g n (argumentsAt (now (file .entry)) at n)) (now (out .entry)) r (now (out .exit)) ⌝ }
 {
     let k = v + 2;
@@ -138,7 +138,7 @@ fn put_plain_call(
 
 // The slots of tag 9.
 fn put_guarded_head(out: &mut [u8], o: usize, k: u8, target: u8, t: u8, number: u8) -> usize
-    requires { ⌜ Room o (guardedHead k target t number) (now out) ⌝ }
+    requires { ⌜ Room o (4 + sizeIfAny number 1) (now out) ⌝ }
     ensures { λ r. ⌜ Wrote o (guardedHead k target t number) (now (out .entry)) r (now (out .exit)) ⌝ }
 {
     let a = bytes::put_four(out, o, 9, k, target, t);
@@ -157,7 +157,7 @@ fn put_guarded_call(
     n: u8,
 ) -> usize
     requires { ⌜ (base ≤ 2048) × (u .variables ≤ maxVariables) × (x .0 < maxVariables) × (n ≤ maxVariables) × (g < 65536) × CallStands (now file) at n ⌝ }
-    requires { ⌜ Room o (guardedCall base u (x .0) g n (argumentsAt (now file) at n)) (now out) ⌝ }
+    requires { ⌜ Room o (8 + sizeIfAny (u .number) 1 + ((6 + n) + (6 + u .variables))) (now out) ⌝ }
     ensures { λ r. ⌜ Wrote o (guardedCall base u (x .0) g n (argumentsAt (now (file .entry)) at n)) (now (out .entry)) r (now (out .exit)) ⌝ }
 {
     let v = u.variables;
@@ -186,7 +186,7 @@ pub fn put_call(
     n: u8,
 ) -> usize
     requires { ⌜ (base ≤ 2048) × (u .variables ≤ maxVariables) × (x .0 < maxVariables) × (n ≤ maxVariables) × (g < 65536) × CallStands (now file) at n ⌝ }
-    requires { ⌜ Room o (callBytes base u (x .0) g n (argumentsAt (now file) at n)) (now out) ⌝ }
+    requires { ⌜ Room o (callSize u n) (now out) ⌝ }
     ensures { λ r. ⌜ Wrote o (callBytes base u (x .0) g n (argumentsAt (now (file .entry)) at n)) (now (out .entry)) r (now (out .exit)) ⌝ }
 {
     if u.handler == 0 {
@@ -208,7 +208,7 @@ pub fn put_branch(
     m: u8,
 ) -> usize
     requires { ⌜ (base ≤ 2048) × (v ≤ maxVariables) × (y .0 < maxVariables) × (z .0 < maxVariables) ⌝ }
-    requires { ⌜ Room o (branchBytes base v (y .0) (z .0) l m) (now out) ⌝ }
+    requires { ⌜ Room o (5 + ((6 + v) + (6 + v))) (now out) ⌝ }
     ensures { λ r. ⌜ Wrote o (branchBytes base v (y .0) (z .0) l m) (now (out .entry)) r (now (out .exit)) ⌝ }
 {
     let left = bytes::slot_of(y);
@@ -238,7 +238,7 @@ pub fn raise_size(u: Under) -> usize
 // The end of a raise of 0: tag 6, or the jump to the handler.
 fn put_raise_end(out: &mut [u8], o: usize, base: usize, u: Under) -> usize
     requires { ⌜ (base ≤ 2048) × (u .variables ≤ maxVariables) ⌝ }
-    requires { ⌜ Room o (raiseEnd base u) (now out) ⌝ }
+    requires { ⌜ Room o (raiseEndSize u) (now out) ⌝ }
     ensures { λ r. ⌜ Wrote o (raiseEnd base u) (now (out .entry)) r (now (out .exit)) ⌝ }
 {
     if u.handler == 0 {
@@ -252,7 +252,7 @@ fn put_raise_end(out: &mut [u8], o: usize, base: usize, u: Under) -> usize
 // 8 raise, under the handler in force.
 pub fn put_raise(out: &mut [u8], o: usize, base: usize, u: Under) -> usize
     requires { ⌜ (base ≤ 2048) × (u .variables ≤ maxVariables) ⌝ }
-    requires { ⌜ Room o (raiseBytes base u) (now out) ⌝ }
+    requires { ⌜ Room o (raiseSize u) (now out) ⌝ }
     ensures { λ r. ⌜ Wrote o (raiseBytes base u) (now (out .entry)) r (now (out .exit)) ⌝ }
 {
     let a = put_zero_if_any(out, o, u.bound);
@@ -272,7 +272,7 @@ pub fn raise_value_size(u: Under) -> usize
 // 9 raise of a variable's value, under the handler in force.
 pub fn put_raise_value(out: &mut [u8], o: usize, base: usize, u: Under, y: VariableNumber) -> usize
     requires { ⌜ (base ≤ 2048) × (u .variables ≤ maxVariables) × (y .0 < maxVariables) ⌝ }
-    requires { ⌜ Room o (raiseValueBytes base u (y .0)) (now out) ⌝ }
+    requires { ⌜ Room o (raiseValueSize u) (now out) ⌝ }
     ensures { λ r. ⌜ Wrote o (raiseValueBytes base u (y .0)) (now (out .entry)) r (now (out .exit)) ⌝ }
 {
     if u.handler == 0 {
@@ -287,7 +287,7 @@ pub fn put_raise_value(out: &mut [u8], o: usize, base: usize, u: Under, y: Varia
 // 1 constant
 pub fn put_constant(out: &mut [u8], o: usize, x: ConstantBytes) -> usize
     requires { ⌜ x .target .0 < maxVariables ⌝ }
-    requires { ⌜ Room o ((1 ∷ (x .target .0 + 2) ∷ []) ++ valueBytes (valueOf (x .b0) (x .b1) (x .b2) (x .b3))) (now out) ⌝ }
+    requires { ⌜ Room o 6 (now out) ⌝ }
     ensures { λ r. ⌜ Wrote o ((1 ∷ (x .target .0 + 2) ∷ []) ++ valueBytes (valueOf (x .b0) (x .b1) (x .b2) (x .b3))) (now (out .entry)) r (now (out .exit)) ⌝ }
 {
     let target = bytes::slot_of(x.target);
@@ -298,7 +298,7 @@ pub fn put_constant(out: &mut [u8], o: usize, x: ConstantBytes) -> usize
 // 2 copy
 pub fn put_copy(out: &mut [u8], o: usize, x: VariableNumber, y: VariableNumber) -> usize
     requires { ⌜ (x .0 < maxVariables) × (y .0 < maxVariables) ⌝ }
-    requires { ⌜ Room o (2 ∷ (x .0 + 2) ∷ (y .0 + 2) ∷ []) (now out) ⌝ }
+    requires { ⌜ Room o 3 (now out) ⌝ }
     ensures { λ r. ⌜ Wrote o (2 ∷ (x .0 + 2) ∷ (y .0 + 2) ∷ []) (now (out .entry)) r (now (out .exit)) ⌝ }
 {
     let target = bytes::slot_of(x);
@@ -317,7 +317,7 @@ pub fn put_difference(
     z: VariableNumber,
 ) -> usize
     requires { ⌜ (base ≤ 2048) × (u .variables ≤ maxVariables) × (x .0 < maxVariables) × (y .0 < maxVariables) × (z .0 < maxVariables) ⌝ }
-    requires { ⌜ Room o (differenceBytes base u (x .0) (y .0) (z .0)) (now out) ⌝ }
+    requires { ⌜ Room o (6 + raiseSize u) (now out) ⌝ }
     ensures { λ r. ⌜ Wrote o (differenceBytes base u (x .0) (y .0) (z .0)) (now (out .entry)) r (now (out .exit)) ⌝ }
 {
     let target = bytes::slot_of(x);
@@ -332,7 +332,7 @@ pub fn put_difference(
 // 6 return
 pub fn put_return(out: &mut [u8], o: usize, x: VariableNumber) -> usize
     requires { ⌜ x .0 < maxVariables ⌝ }
-    requires { ⌜ Room o (5 ∷ 0 ∷ (x .0 + 2) ∷ []) (now out) ⌝ }
+    requires { ⌜ Room o 3 (now out) ⌝ }
     ensures { λ r. ⌜ Wrote o (5 ∷ 0 ∷ (x .0 + 2) ∷ []) (now (out .entry)) r (now (out .exit)) ⌝ }
 {
     let value = bytes::slot_of(x);

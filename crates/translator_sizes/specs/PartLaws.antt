@@ -20,7 +20,7 @@ use Rattle.translator_bytes.specs.Bytes.{zeros}
 use Rattle.translator_sizes.specs.declared.Fields.{Fields}
 use Rattle.translator_sizes.specs.Parts.{underOf, bodyBytes, bytesAt, partBytes, byLabel, fieldsOf, labelBytes}
 use Rattle.translator_sizes.specs.Standing.{OperationStands, BlockSize, LabelSize}
-use Rattle.translator_sizes.specs.SizeLaws.{length-zeros}
+use Rattle.translator_bytes.specs.LengthLaws.{length-zeros}
 use Rattle.translator_sizes.specs.BodyLaws.{body-is}
 use Rattle.target_file.specs.ReadsBackLaws.{bytes-length}
 

@@ -1,49 +1,36 @@
 -- How many bytes each operation becomes.
-use Prim.Native.Nat.{ℕ, zero, suc, _+_, _*_}
+use Prim.Native.Nat.{ℕ, suc, _+_}
 use native.Mathlib.Omega.{arith}
 use mathlib.Core.Path.{_≡_, refl, ap, _∙_}
 use mathlib.Core.List.{List, [], _∷_, _++_}
 use mathlib.Core.Bool.{Bool, true, false, cond}
-use borrow.Author.Tests.{eq-eqb, ne-eqb}
+use borrow.Author.Tests.{ne-eqb}
 use lib.Dec.{eqb}
 use lib.ListN.{length, length-append}
 use Rattle.parsing.specs.Bytes.{pairBytes}
 use Rattle.translator_bytes.specs.declared.jumps.Under.{Under}
-use Rattle.translator_bytes.specs.Bytes.{ifAny, sizeIfAny, labelJump, callJump, plainCall, guardedHead, guardedCall, branchBytes, raiseEnd, raiseBytes, raiseSize, raiseValueBytes, raiseValueSize, differenceBytes, callBytes, callSize, zeros}
-use Rattle.translator_bytes.specs.LengthLaws.{label-size, call-size}
+use Rattle.translator_bytes.specs.Bytes.{ifAny, sizeIfAny, labelJump, callJump, plainCall, guardedHead, guardedCall, branchBytes, raiseEnd, raiseEndSize, raiseBytes, raiseSize, raiseValueBytes, raiseValueSize, differenceBytes, callBytes, callSize}
+use Rattle.translator_bytes.specs.LengthLaws.{label-size, call-size, any-size, head-size}
 
 -- A handler in force is not 0.
 pub guarded-test : (h : ℕ) → eqb (suc h) 0 ≡ false
 guarded-test h = ne-eqb (suc h) 0 (λ e. omega arith)
 
-pub length-zeros : (x n : ℕ) → length (zeros x n) ≡ 6 * n
-length-zeros x zero = refl
-length-zeros x (suc n) = let a = length-zeros (suc x) n in omega arith
-
 pub plain-size : (v x g n : ℕ) (ys : List ℕ) → length ys ≡ n → length (plainCall v x g n ys) ≡ 5 + (6 + n)
 unfolding plainCall
 plain-size v x g n ys e = let a = call-size g (v + 2) 1 n ys e in omega arith
 
--- Bytes of a slot, if any.
-pub any-size : (slot : ℕ) (w : List ℕ) {n : ℕ} → length w ≡ n → length (ifAny slot w) ≡ sizeIfAny slot n
-unfolding ifAny sizeIfAny
-any-size slot w {n} e = by (eqb slot 0)
-  where
-    by : (t : Bool) → length (cond t [] w) ≡ cond t 0 n
-    by true = refl
-    by false = e
-
 pub guarded-size : (base : ℕ) (u : Under) (x g n : ℕ) (ys : List ℕ) → length ys ≡ n
     → length (guardedCall base u x g n ys) ≡ 8 + sizeIfAny (u .number) 1 + ((6 + n) + (6 + u .variables))
-unfolding guardedCall guardedHead
+unfolding guardedCall
 guarded-size base u x g n ys e =
     let v = u .variables in
     let a = call-size g (v + 2) (v + 3) n ys e in
     let b = label-size base v (u .handler) in
     let c = length-append (callJump g (v + 2) (v + 3) n ys) (pairBytes (6 + v) ++ labelJump base v (u .handler)) in
-    let d : length (ifAny (u .number) (u .number ∷ [])) ≡ sizeIfAny (u .number) 1 = any-size (u .number) (u .number ∷ []) refl in
-    let tail = pairBytes (6 + n) ++ (callJump g (v + 2) (v + 3) n ys ++ (pairBytes (6 + v) ++ labelJump base v (u .handler))) in
-    let f = length-append (ifAny (u .number) (u .number ∷ [])) tail in
+    let head = guardedHead (v + 2) (x + 2) (v + 3) (u .number) in
+    let d = head-size (v + 2) (x + 2) (v + 3) (u .number) in
+    let f = length-append head (pairBytes (6 + n) ++ (callJump g (v + 2) (v + 3) n ys ++ (pairBytes (6 + v) ++ labelJump base v (u .handler)))) in
     omega arith
 
 pub called-size : (base : ℕ) (u : Under) (x g n : ℕ) (ys : List ℕ) → length ys ≡ n → length (callBytes base u x g n ys) ≡ callSize u n
@@ -64,8 +51,8 @@ branch-size base v y z l m =
     omega arith
 
 -- The end of a raise, and what it binds before.
-end-size : (base : ℕ) (u : Under) → length (raiseEnd base u) ≡ cond (eqb (u .handler) 0) (2 + sizeIfAny (u .number) 1) (6 + u .variables)
-unfolding raiseEnd
+end-size : (base : ℕ) (u : Under) → length (raiseEnd base u) ≡ raiseEndSize u
+unfolding raiseEnd raiseEndSize
 end-size base u = by (eqb (u .handler) 0)
   where
     by : (t : Bool)
@@ -99,12 +86,3 @@ raise-value-size base u y = by (eqb (u .handler) 0)
 pub difference-size : (base : ℕ) (u : Under) (x y z : ℕ) → length (differenceBytes base u x y z) ≡ 6 + raiseSize u
 unfolding differenceBytes
 difference-size base u x y z = let a = raise-size base u in omega arith
-
--- The sizes by the handler in force, as they are computed.
-pub plain-sum : (u : Under) (n : ℕ) {j : ℕ} → u .handler ≡ 0 → j ≡ 6 + n → 5 + j ≡ callSize u n
-unfolding callSize
-plain-sum u n e q = rw (eq-eqb (u .handler) 0 e, q)
-
-pub guarded-sum : (u : Under) (n : ℕ) {j k i : ℕ} → (u .handler ≡ 0 → ⊥) → j ≡ 6 + n → k ≡ 6 + u .variables → i ≡ sizeIfAny (u .number) 1 → 8 + i + (j + k) ≡ callSize u n
-unfolding callSize
-guarded-sum u n e q r t = rw (ne-eqb (u .handler) 0 e, q, r, t)

@@ -8,7 +8,7 @@ use Rattle.parsing.specs.Parser.{joined}
 use Rattle.semantics.specs.Merge.{renumberedFunction}
 use Rattle.procedure_names.specs.Writing.{functionBytes}
 use Rattle.procedure_file.specs.Check.{programOf}
-use Rattle.translator_bytes.specs.WriteLaws.{Rest, rest-room, rest-more, rest-last, room-front}
+use Rattle.translator_bytes.specs.WriteLaws.{room-less, Rest, rest-room, rest-more, rest-last, rest-front}
 use Rattle.merge.specs.Merged.{mergedOf}
 use Rattle.merge.specs.Parts.{headBytes, stretch}
 use Rattle.merge.specs.FileLaws.{first-long, file-rest, few, count-is}
@@ -59,14 +59,15 @@ cast-put-head : tie.Need-cast-put-head
 cast-put-head c = omega (arith, few-at (c .before) .0, few-at (c .before) .1)
 
 put-head-requires : tie.Need-put-head-requires
-put-head-requires c κs = room-front _ _ (rest-room (rest-at (c .before)))
+put-head-requires c κs = room-less (rest-room (rest-at (c .before))) (omega arith)
 
 put-stretch-requires : tie.Need-put-stretch-requires
 put-stretch-requires c κs =
     let at-put-head = c .before .before .before in
     let at-counted = counted-before-put-head at-put-head in
     let entry = entry-before-counted at-counted in
-    ((first-long (entry .pre .0 .0), omega arith), room-front _ _ (rest-room (rest-more (rest-at at-counted) _ _ refl (at-put-head .put-head .ensures))))
+    let file = entry .args .first .now in
+    ((first-long (entry .pre .0 .0), omega arith), rest-front (stretch file 6 (length file)) _ (rest-more (rest-at at-counted) _ _ refl (at-put-head .put-head .ensures)))
 
 cast-put-functions : tie.Need-cast-put-functions
 cast-put-functions c = omega (arith, few-at (counted-before-put-head (put-head-before-put-stretch (c .before .before))) .0)

@@ -1,5 +1,5 @@
 -- `translator_sizes::call_size` meets its contract.
-use Rattle.translator_sizes.specs.SizeLaws.{plain-sum, guarded-sum}
+use Rattle.translator_bytes.specs.JumpLaws.{plain-sum, guarded-sum}
 use native.Mathlib.Omega.{arith}
 use borrow.Author.Needs.{needs}
 use Rattle.translator_sizes.proofs.call_size.Statement.{statement}

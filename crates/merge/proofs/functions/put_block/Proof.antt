@@ -82,7 +82,7 @@ same-length c =
     let at-next = next-before-put-stretch at-put-stretch in
     let at-after-of = at-next .before .before in
     let T = loop-before-after-of at-after-of .loop .inv in
-    wrote-length (turn-last T (at-after-of .before .operation-at .ensures) (at-after-of .after-of .ensures) (at-next .next2 .given .1)) (at-put-stretch .put-stretch .ensures)
+    wrote-length (turn-last T (at-after-of .before .operation-at .ensures) (at-after-of .after-of .ensures) (at-next .next2 .given .1)) (at-put-stretch .put-stretch .ensures) (omega arith)
     ∙ T .rest .sameLength
 
 returns : tie.Need-returns Inv-loop μ-loop

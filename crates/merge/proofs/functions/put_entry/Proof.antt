@@ -2,7 +2,7 @@
 use native.Mathlib.Omega.{arith}
 use mathlib.Core.Path.{refl}
 use mathlib.Core.List.{[], _∷_, _++_}
-use Rattle.translator_bytes.specs.WriteLaws.{Rest, rest-room, rest-more, rest-last, room-front}
+use Rattle.translator_bytes.specs.WriteLaws.{room-less, Rest, rest-room, rest-more, rest-last}
 use Rattle.merge.specs.Parts.{restBytes, entryBytes}
 use Rattle.merge.specs.FunctionLaws.{block-stands, entry-rest}
 use borrow.Author.Needs.{needs}
@@ -45,7 +45,7 @@ start-of-requires : tie.Need-start-of-requires
 start-of-requires c κs = search needs
 
 put-three-requires : tie.Need-put-three-requires
-put-three-requires c κs = room-front _ _ (rest-room (rest-at (c .before)))
+put-three-requires c κs = room-less (rest-room (rest-at (c .before))) (omega arith)
 
 put-block-requires : tie.Need-put-block-requires
 put-block-requires c κs =

@@ -8,7 +8,8 @@ use Rattle.semantics.specs.Program.{functionOf}
 use Rattle.semantics.specs.Merge.{renumberedFunction}
 use Rattle.procedure_names.specs.Writing.{functionBytes}
 use Rattle.procedure_file.specs.Check.{programOf}
-use Rattle.translator_bytes.specs.WriteLaws.{Rest, wrote-length, rest-none, rest-from, rest-room, rest-as, rest-more, rest-done, rest-last, room-front}
+use Rattle.translator_bytes.specs.WriteLaws.{Rest, wrote-length, rest-none, rest-from, rest-room, rest-as, rest-more, rest-done, rest-last, room-front, rest-front}
+use Rattle.translator_bytes.specs.Writes.{Room}
 use Rattle.merge.specs.Parts.{entryBytes, labelBytes}
 use Rattle.merge.specs.FunctionLaws.{labelsFrom, labels-more, labels-none, function-is}
 use Rattle.merge.proofs.functions.put_function.Statement.{statement}
@@ -39,6 +40,13 @@ whole-at c =
     let entry = entry-before-byte-number c in
     rest-from (entry .pre .1 .1) (function-is (entry .args .file .now) (entry .args .f) (entry .args .count))
 
+-- The room for the counts and the entry block.
+abbrev front-at : (c : tie.After-byte-number Inv-loop μ-loop) → let entry = entry-before-byte-number c in
+    Room (entry .args .o) (length (entryBytes (entry .args .file .now) (entry .args .f) (entry .args .count))) (entry .args .out .now)
+front-at c =
+    let entry = entry-before-byte-number c in
+    rest-front (entryBytes (entry .args .file .now) (entry .args .f) (entry .args .count)) _ (whole-at c)
+
 labels-of-requires : tie.Need-labels-of-requires Inv-loop μ-loop
 labels-of-requires c κs = let entry = c .before .before in (entry .pre .0 .0 .tabled, entry .pre .1 .0)
 
@@ -49,7 +57,7 @@ put-entry-requires : tie.Need-put-entry-requires Inv-loop μ-loop
 put-entry-requires c κs =
     let at-byte-number = c .before in
     let entry = entry-before-byte-number at-byte-number in
-    (entry .pre .0, (entry .pre .1 .0, room-front _ _ (rest-room (whole-at at-byte-number))))
+    (entry .pre .0, (entry .pre .1 .0, front-at at-byte-number))
 
 loop-holds : tie.Need-loop-holds Inv-loop μ-loop
 loop-holds c =
@@ -98,7 +106,7 @@ same-length : tie.Need-same-length Inv-loop μ-loop
 same-length c =
     let at-loop = c .before in
     let at-put-entry = at-loop .before .before .before in
-    at-loop .loop .inv .sameLength ∙ wrote-length (room-front _ _ (rest-room (whole-at (at-put-entry .before .before)))) (at-put-entry .put-entry .ensures)
+    at-loop .loop .inv .sameLength ∙ wrote-length (front-at (at-put-entry .before .before)) (at-put-entry .put-entry .ensures) (omega arith)
 
 returns : tie.Need-returns Inv-loop μ-loop
 returns c =

@@ -43,8 +43,10 @@ put-function-requires c κs =
     let entry = entry-before-functions-of (at-loop .before) in
     let s = entry .args .file .now in
     let f = at-loop .loop .f in
+    let n = entry .args .count in
     let below : f < length (programOf s) = omega (arith, at-loop-test .loop-test .taken, at-loop .before .functions-of .ensures) in
-    (entry .pre .0, (below, room-front _ _ (rest-as (at-loop .loop .inv) _ (functions-more s f (entry .args .count) below))))
+    let first = functionBytes (renumberedFunction n (functionOf (programOf s) f)) in
+    (entry .pre .0, (below, room-front first (functionsFrom s (f + 1) n) (rest-as (at-loop .loop .inv) _ (functions-more s f n below))))
 
 add-f : tie.Need-add-f Inv-loop μ-loop
 add-f c =

@@ -4,7 +4,7 @@ use native.Mathlib.Omega.{arith}
 use mathlib.Core.Path.{refl}
 use mathlib.Core.List.{_++_}
 use lib.ListN.{length}
-use Rattle.translator_bytes.specs.WriteLaws.{Rest, rest-room, rest-more, rest-last, room-front}
+use Rattle.translator_bytes.specs.WriteLaws.{Rest, rest-room, rest-more, rest-last, rest-front}
 use Rattle.merge.specs.Parts.{stretch, restBytes, labelBytes}
 use Rattle.merge.specs.FunctionLaws.{block-stands, head-fits, label-rest}
 use borrow.Author.Needs.{needs}
@@ -43,7 +43,11 @@ sub-head : tie.Need-sub-head
 sub-head c = fits-at c .0
 
 put-stretch-requires : tie.Need-put-stretch-requires
-put-stretch-requires c κs = ((omega arith, fits-at (c .before) .1), room-front _ _ (rest-room (rest-at (c .before))))
+put-stretch-requires c κs =
+    let at-bytes-before = c .before in
+    let start = at-bytes-before .before .start-of .result in
+    let head = stretch (entry-before-bytes-before at-bytes-before .args .file .now) (start - at-bytes-before .bytes-before .result) start in
+    ((omega arith, fits-at at-bytes-before .1), rest-front head _ (rest-at at-bytes-before))
 
 put-block-requires : tie.Need-put-block-requires
 put-block-requires c κs =

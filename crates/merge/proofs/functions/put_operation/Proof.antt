@@ -3,7 +3,7 @@ use Prim.Native.Nat.{_+_}
 use native.Mathlib.Omega.{arith}
 use mathlib.Core.Path.{refl}
 use mathlib.Core.List.{_++_}
-use Rattle.translator_bytes.specs.WriteLaws.{Rest, rest-room, rest-more, rest-last, room-front}
+use Rattle.translator_bytes.specs.WriteLaws.{room-less, Rest, rest-room, rest-more, rest-last}
 use Rattle.merge.specs.Parts.{stretch, callHead, operationBytes}
 use Rattle.merge.specs.BlockLaws.{plain-rest, call-rest}
 use borrow.Author.Needs.{needs}
@@ -62,7 +62,7 @@ shared-slice-read-put-four-2 c =
     omega (arith, fits .call (at-then .if1 .taken) .0, fits .inside)
 
 put-four-requires : tie.Need-put-four-requires
-put-four-requires c κs = room-front _ _ (rest-room (rest-at (then-before-put-four c)))
+put-four-requires c κs = room-less (rest-room (rest-at (then-before-put-four c))) (omega arith)
 
 put-stretch-requires : tie.Need-put-stretch-requires
 put-stretch-requires c κs =

@@ -1,5 +1,5 @@
 -- `translator::blocks::put_block` meets its contract.
-use Rattle.translator.specs.BlockLaws.{Turn, turn-none, turn-room, turn-next, turn-moves, turn-done, turn-never}
+use Rattle.translator.specs.BlockLaws.{Turn, turn-none, turn-size, turn-room, turn-next, turn-moves, turn-done, turn-never}
 use Rattle.translator_bytes.specs.WriteLaws.{wrote-length}
 use mathlib.Core.Path.{_∙_}
 use lib.ListN.{length}
@@ -71,7 +71,7 @@ same-length c =
     let at-operation-at = c .before .before .before in
     let at-put-operation = put-operation-before-operation-at at-operation-at in
     let at-loop = loop-before-put-operation at-put-operation in
-    wrote-length (turn-room (at-loop .loop .inv)) (at-put-operation .put-operation .ensures) ∙ at-loop .loop .inv .rest .sameLength
+    wrote-length (turn-room (at-loop .loop .inv)) (at-put-operation .put-operation .ensures) (omega (arith, turn-size (at-loop .loop .inv))) ∙ at-loop .loop .inv .rest .sameLength
 
 returns : tie.Need-returns Inv-loop μ-loop
 returns c =
@@ -90,7 +90,7 @@ same-length-2 c =
     let at-operation-at = c .before .before .before in
     let at-put-operation = put-operation-before-operation-at at-operation-at in
     let at-loop = loop-before-put-operation at-put-operation in
-    wrote-length (turn-room (at-loop .loop .inv)) (at-put-operation .put-operation .ensures) ∙ at-loop .loop .inv .rest .sameLength
+    wrote-length (turn-room (at-loop .loop .inv)) (at-put-operation .put-operation .ensures) (omega (arith, turn-size (at-loop .loop .inv))) ∙ at-loop .loop .inv .rest .sameLength
 
 returns-2 : tie.Need-returns-2 Inv-loop μ-loop
 returns-2 c =

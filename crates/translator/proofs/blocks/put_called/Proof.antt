@@ -2,7 +2,7 @@
 use native.Mathlib.Omega.{arith}
 use Rattle.translator.specs.BlockLaws.{arm-numbers, call-stands, call-count, callee-is}
 use Rattle.translator_sizes.specs.OperationLaws.{variables-bound}
-use Rattle.translator_bytes.specs.JumpLaws.{room-as, wrote-as}
+use Rattle.translator_bytes.specs.JumpLaws.{wrote-as}
 use Rattle.procedure_operations.specs.Operation.{argumentsAt}
 use borrow.Author.Needs.{needs}
 use Rattle.translator.proofs.blocks.put_called.Statement.{statement}
@@ -31,13 +31,11 @@ offset-number-requires c κs = search needs
 put-call-requires : tie.Need-put-call-requires
 put-call-requires c κs =
     let at-offset-number = c .before in
-    let at-index = at-offset-number .before .before in
-    let entry = entry-before-index at-index in
+    let entry = entry-before-index (at-offset-number .before .before) in
     let P = entry .pre .0 .0 in
     let e = entry .pre .0 .1 in (
       (P .baseBound, variables-bound (P .here), arm-numbers P e .0, call-count P e, at-offset-number .offset-number .ensures .1, call-stands P e),
-      room-as (callee-is (entry .args .base) (entry .args .u) (entry .args .x .target .0) (entry .args .x .count) (entry .args .x .function .0) _ _ (entry .args .numbers .now)
-          (argumentsAt (entry .args .file .now) (entry .args .at) (entry .args .x .count)) (at-index .index .ensures) (at-offset-number .offset-number .ensures .0)) (entry .pre .1),
+      entry .pre .1,
     )
 
 same-length : tie.Need-same-length

@@ -48,7 +48,7 @@ constant-bytes-requires c κs =
 put-constant-requires : tie.Need-put-constant-requires
 put-constant-requires c κs =
     let entry = entry-before-constant-bytes c in
-    (arm-numbers (entry .pre .0) (c .constant-bytes .ensures), arm-room (entry .args .file .now) (entry .args .numbers .now) (entry .args .base) (entry .args .u) (entry .args .at) (c .constant-bytes .ensures) (entry .pre .1))
+    (arm-numbers (entry .pre .0) (c .constant-bytes .ensures), arm-room (entry .args .u) (c .constant-bytes .ensures) (entry .pre .1))
 
 copy-fields-requires : tie.Need-copy-fields-requires
 copy-fields-requires c κs =
@@ -59,7 +59,7 @@ put-copy-requires : tie.Need-put-copy-requires
 put-copy-requires c κs =
     let entry = entry-before-copy-fields (c .before) in (
       arm-numbers (entry .pre .0) (c .before .copy-fields .ensures),
-      arm-room (entry .args .file .now) (entry .args .numbers .now) (entry .args .base) (entry .args .u) (entry .args .at) (c .before .copy-fields .ensures) (entry .pre .1),
+      arm-room (entry .args .u) (c .before .copy-fields .ensures) (entry .pre .1),
     )
 
 difference-fields-requires : tie.Need-difference-fields-requires
@@ -72,7 +72,7 @@ put-difference-requires c κs =
     let entry = entry-before-difference-fields (c .before) in
     let numbers = arm-numbers (entry .pre .0) (c .before .difference-fields .ensures) in (
       (entry .pre .0 .baseBound, variables-bound (entry .pre .0 .here), numbers .0, numbers .1, numbers .2),
-      arm-room (entry .args .file .now) (entry .args .numbers .now) (entry .args .base) (entry .args .u) (entry .args .at) (c .before .difference-fields .ensures) (entry .pre .1),
+      arm-room (entry .args .u) (c .before .difference-fields .ensures) (entry .pre .1),
     )
 
 call-fields-requires : tie.Need-call-fields-requires
@@ -84,7 +84,7 @@ put-called-requires : tie.Need-put-called-requires
 put-called-requires c κs =
     let entry = entry-before-call-fields (c .before) in (
       (entry .pre .0, c .before .call-fields .ensures),
-      arm-room (entry .args .file .now) (entry .args .numbers .now) (entry .args .base) (entry .args .u) (entry .args .at) (c .before .call-fields .ensures) (entry .pre .1),
+      arm-room (entry .args .u) (c .before .call-fields .ensures) (entry .pre .1),
     )
 
 goto-fields-requires : tie.Need-goto-fields-requires
@@ -96,7 +96,7 @@ put-label-jump-requires : tie.Need-put-label-jump-requires
 put-label-jump-requires c κs =
     let entry = entry-before-goto-fields (c .before) in (
       (entry .pre .0 .baseBound, variables-bound (entry .pre .0 .here)),
-      arm-room (entry .args .file .now) (entry .args .numbers .now) (entry .args .base) (entry .args .u) (entry .args .at) (c .before .goto-fields .ensures) (entry .pre .1),
+      arm-room (entry .args .u) (c .before .goto-fields .ensures) (entry .pre .1),
     )
 
 return-fields-requires : tie.Need-return-fields-requires
@@ -108,7 +108,7 @@ put-return-requires : tie.Need-put-return-requires
 put-return-requires c κs =
     let entry = entry-before-return-fields (c .before) in (
       arm-numbers (entry .pre .0) (c .before .return-fields .ensures),
-      arm-room (entry .args .file .now) (entry .args .numbers .now) (entry .args .base) (entry .args .u) (entry .args .at) (c .before .return-fields .ensures) (entry .pre .1),
+      arm-room (entry .args .u) (c .before .return-fields .ensures) (entry .pre .1),
     )
 
 branch-fields-requires : tie.Need-branch-fields-requires
@@ -120,7 +120,7 @@ put-branch-requires : tie.Need-put-branch-requires
 put-branch-requires c κs =
     let entry = entry-before-branch-fields (c .before) in (
       (entry .pre .0 .baseBound, variables-bound (entry .pre .0 .here), arm-numbers (entry .pre .0) (c .before .branch-fields .ensures) .0, arm-numbers (entry .pre .0) (c .before .branch-fields .ensures) .1),
-      arm-room (entry .args .file .now) (entry .args .numbers .now) (entry .args .base) (entry .args .u) (entry .args .at) (c .before .branch-fields .ensures) (entry .pre .1),
+      arm-room (entry .args .u) (c .before .branch-fields .ensures) (entry .pre .1),
     )
 
 raise-value-fields-requires : tie.Need-raise-value-fields-requires
@@ -132,7 +132,7 @@ put-raise-value-requires : tie.Need-put-raise-value-requires
 put-raise-value-requires c κs =
     let entry = entry-before-raise-value-fields (c .before) in (
       (entry .pre .0 .baseBound, variables-bound (entry .pre .0 .here), arm-numbers (entry .pre .0) (c .before .raise-value-fields .ensures)),
-      arm-room (entry .args .file .now) (entry .args .numbers .now) (entry .args .base) (entry .args .u) (entry .args .at) (c .before .raise-value-fields .ensures) (entry .pre .1),
+      arm-room (entry .args .u) (c .before .raise-value-fields .ensures) (entry .pre .1),
     )
 
 -- The last arm is the raise's.
@@ -142,7 +142,7 @@ put-raise-requires c κs =
     let rest = at-match .match .rest in
     let entry = entry-before-match-rest at-match in (
       (entry .pre .0 .baseBound, variables-bound (entry .pre .0 .here)),
-      arm-room (entry .args .file .now) (entry .args .numbers .now) (entry .args .base) (entry .args .u) (entry .args .at)
+      arm-room (entry .args .u)
           (arm-raise (entry .pre .0) (at-match .before .number-at .ensures) (rest .0 .0 .0 .0 .0 .0 .0 .1) (rest .0 .0 .0 .0 .0 .0 .1) (rest .0 .0 .0 .0 .0 .1) (rest .0 .0 .0 .0 .1) (rest .0 .0 .0 .1) (rest .0 .0 .1) (rest .0 .1) (rest .1) .1) (entry .pre .1),
     )
 

@@ -1,9 +1,17 @@
 -- `translator::parts::put_file` meets its contract.
 use Rattle.translator.specs.FileLaws.{version-kept, mark-room, version-room, targets-room, functions-room, file-wrote}
+use mathlib.Core.Path.{refl}
 use native.Mathlib.Omega.{arith}
 use borrow.Author.Needs.{needs}
 use Rattle.translator.proofs.parts.put_file.Statement.{statement}
 use Rattle.translator.proofs.parts.put_file.Tie as tie
+
+-- Ways back to earlier places that several answers take.
+abbrev entry-before-fill-numbers : tie.After-fill-numbers → tie.Start
+entry-before-fill-numbers c = c .before .before .before .before .before
+
+abbrev fill-numbers-before-put-three : tie.After-put-three → tie.After-fill-numbers
+fill-numbers-before-put-three c = c .before .before .before .before .before .before .before
 
 version-of-requires : tie.Need-version-of-requires
 version-of-requires c κs = search needs
@@ -25,31 +33,23 @@ element-copy-out-put-three-3 c = search needs
 
 put-three-requires : tie.Need-put-three-requires
 put-three-requires c κs =
-    let at-fill-numbers = c .before .before .before .before .before .before in
-    let at-version-of = at-fill-numbers .before .before in
-    let entry = at-version-of .before .before .before in
-    let version-is = version-kept (entry .pre .0) (at-version-of .version-of .ensures) in
-    mark-room (entry .args .file .now) version-is (at-fill-numbers .fill-numbers .ensures .0) (entry .pre .1)
+    let entry = entry-before-fill-numbers (c .before .before .before .before .before .before) in
+    mark-room (entry .args .file .now) (entry .pre .1)
 
 put-two-requires : tie.Need-put-two-requires
 put-two-requires c κs =
     let at-put-three = c .before .before .before in
-    let at-fill-numbers = at-put-three .before .before .before .before .before .before .before in
-    let at-version-of = at-fill-numbers .before .before in
-    let entry = at-version-of .before .before .before in
-    let version-is = version-kept (entry .pre .0) (at-version-of .version-of .ensures) in
-    version-room (entry .args .file .now) version-is (at-fill-numbers .fill-numbers .ensures .0) (entry .pre .1) (at-put-three .put-three .ensures)
+    let entry = entry-before-fill-numbers (fill-numbers-before-put-three at-put-three) in
+    version-room (entry .args .file .now) (entry .pre .1) refl (at-put-three .put-three .ensures)
 
 put-pair-requires : tie.Need-put-pair-requires
 put-pair-requires c κs =
     let at-put-two = c .before .before .before in
     let at-put-three = at-put-two .before .before .before .before in
-    let at-fill-numbers = at-put-three .before .before .before .before .before .before .before in
-    let at-version-of = at-fill-numbers .before .before in
-    let entry = at-version-of .before .before .before in
-    let version-is = version-kept (entry .pre .0) (at-version-of .version-of .ensures) in (
+    let at-fill-numbers = fill-numbers-before-put-three at-put-three in
+    let entry = entry-before-fill-numbers at-fill-numbers in (
       omega (arith, at-fill-numbers .fill-numbers .ensures .1),
-      targets-room (entry .args .file .now) version-is (at-fill-numbers .fill-numbers .ensures .0) (entry .pre .1) (at-put-three .put-three .ensures) (at-put-two .put-two .ensures),
+      targets-room (entry .args .file .now) (entry .pre .1) refl (at-put-three .put-three .ensures) refl (at-put-two .put-two .ensures),
     )
 
 put-functions-requires : tie.Need-put-functions-requires
@@ -57,12 +57,10 @@ put-functions-requires c κs =
     let at-put-pair = c .before .before .before .before in
     let at-put-two = at-put-pair .before .before .before .before in
     let at-put-three = at-put-two .before .before .before .before in
-    let at-fill-numbers = at-put-three .before .before .before .before .before .before .before in
-    let at-version-of = at-fill-numbers .before .before in
-    let entry = at-version-of .before .before .before in
-    let version-is = version-kept (entry .pre .0) (at-version-of .version-of .ensures) in (
+    let at-fill-numbers = fill-numbers-before-put-three at-put-three in
+    let entry = entry-before-fill-numbers at-fill-numbers in (
       (entry .pre .0, at-fill-numbers .fill-numbers .ensures .2),
-      functions-room (entry .args .file .now) version-is (at-fill-numbers .fill-numbers .ensures .0) (entry .pre .1) (at-put-three .put-three .ensures) (at-put-two .put-two .ensures) (at-put-pair .put-pair .ensures),
+      functions-room (entry .args .file .now) (entry .pre .1) refl (at-put-three .put-three .ensures) refl (at-put-two .put-two .ensures) refl (at-put-pair .put-pair .ensures),
     )
 
 same-length : tie.Need-same-length
@@ -73,11 +71,11 @@ returns c =
     let at-put-pair = c .before .before .before .before .before .before .before in
     let at-put-two = at-put-pair .before .before .before .before in
     let at-put-three = at-put-two .before .before .before .before in
-    let at-fill-numbers = at-put-three .before .before .before .before .before .before .before in
+    let at-fill-numbers = fill-numbers-before-put-three at-put-three in
     let at-version-of = at-fill-numbers .before .before in
-    let entry = at-version-of .before .before .before in
+    let entry = entry-before-fill-numbers at-fill-numbers in
     let version-is = version-kept (entry .pre .0) (at-version-of .version-of .ensures) in
-    file-wrote (entry .args .file .now) version-is (at-fill-numbers .fill-numbers .ensures .0) (entry .pre .1) (at-put-three .put-three .ensures) (at-put-two .put-two .ensures) (at-put-pair .put-pair .ensures) (c .before .before .put-functions .ensures)
+    file-wrote (entry .args .file .now) (entry .pre .1) version-is (at-fill-numbers .fill-numbers .ensures .0) (at-put-three .put-three .ensures) (at-put-two .put-two .ensures) (at-put-pair .put-pair .ensures) (c .before .before .put-functions .ensures)
 
 pub put-file-spec : {M : Type 1} → statement M
 put-file-spec =

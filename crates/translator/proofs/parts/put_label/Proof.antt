@@ -1,7 +1,10 @@
 -- `translator::parts::put_label` meets its contract.
 use Rattle.translator.specs.FileLaws.{functions-bound, label-placed, label-part}
 use Rattle.translator_sizes.specs.PartLaws.{counts-bound}
-use Rattle.translator_bytes.specs.JumpLaws.{room-as, wrote-as}
+use Rattle.translator_bytes.specs.WriteLaws.{room-as}
+use Rattle.translator_bytes.specs.JumpLaws.{wrote-as}
+use mathlib.Core.Path.{sym, ap}
+use lib.ListN.{length}
 use native.Mathlib.Omega.{arith}
 use borrow.Author.Needs.{needs}
 use Rattle.translator.proofs.parts.put_label.Statement.{statement}
@@ -26,7 +29,7 @@ put-part-requires c κs =
     let entry = at-offset-number .before .before .before .before in
     let w = counts-bound (entry .pre .0 .0) (entry .args .f) (entry .pre .1 .0 .0) (entry .args .l) (entry .pre .1 .0 .1) _ (at-fields-of .fields-of .ensures) in (
       (label-placed (entry .pre .0 .0) (entry .args .f) (entry .pre .1 .0 .0) (entry .args .l) (entry .pre .1 .0 .1) _ (at-fields-of .fields-of .ensures) (entry .args .numbers .now) (entry .pre .0 .1) _ (at-offset-number .offset-number .ensures .0), w .0, w .1),
-      room-as (label-part (entry .pre .0 .0) (entry .args .f) (entry .pre .1 .0 .0) (entry .args .l) (entry .pre .1 .0 .1) _ (at-fields-of .fields-of .ensures) (entry .args .numbers .now) (entry .pre .0 .1) _ (at-offset-number .offset-number .ensures .0)) (entry .pre .1 .1),
+      room-as (ap length (sym (label-part (entry .pre .0 .0) (entry .args .f) (entry .pre .1 .0 .0) (entry .args .l) (entry .pre .1 .0 .1) _ (at-fields-of .fields-of .ensures) (entry .args .numbers .now) (entry .pre .0 .1) _ (at-offset-number .offset-number .ensures .0)))) (entry .pre .1 .1),
     )
 
 same-length : tie.Need-same-length

@@ -1,5 +1,7 @@
 -- `translator::parts::put_part` meets its contract.
 use Rattle.translator.specs.PartLaws.{part-small, part-room, part-pair-room, part-zeros-room, part-block-room, part-wrote}
+use Rattle.translator_bytes.specs.LengthLaws.{length-zeros}
+use mathlib.Core.Path.{refl}
 use native.Mathlib.Omega.{arith}
 use borrow.Author.Needs.{needs}
 use Rattle.translator.proofs.parts.put_part.Statement.{statement}
@@ -30,29 +32,24 @@ add-size c = search needs
 put-one-requires : tie.Need-put-one-requires
 put-one-requires c κs =
     let entry = c .before .before .before .before in
-    part-room (entry .args .file .now) (entry .args .base) (entry .args .p) (entry .args .n) (entry .args .u) (entry .args .at) (c .before .block-size .ensures)
-    (entry .pre .1)
+    part-room (entry .args .file .now) (entry .args .base) (entry .args .p) (entry .args .n) (entry .args .u) (entry .args .at) (entry .pre .1)
 
 put-pair-requires : tie.Need-put-pair-requires
 put-pair-requires c κs =
     let at-put-one = c .before .before .before in
     let at-block-size = at-put-one .before .before in
     let entry = entry-before-block-size at-block-size in (
-      part-small (entry .args .file .now) (entry .args .base) (entry .args .p) (entry .args .n) (entry .args .u) (entry .args .at)
-          (at-block-size .block-size .ensures) (entry .pre .1),
-      part-pair-room (entry .args .file .now) (entry .args .base) (entry .args .p) (entry .args .n) (entry .args .u) (entry .args .at)
-          (at-block-size .block-size .ensures) (entry .pre .1) (at-put-one .put-one .ensures),
+      part-small (entry .args .file .now) (entry .args .base) (entry .args .p) (entry .args .n) (entry .args .u) (entry .args .at) (entry .pre .1) (at-block-size .block-size .ensures),
+      part-pair-room (entry .args .file .now) (entry .args .base) (entry .args .p) (entry .args .n) (entry .args .u) (entry .args .at) (entry .pre .1) refl (at-put-one .put-one .ensures),
     )
 
 put-zeros-requires : tie.Need-put-zeros-requires
 put-zeros-requires c κs =
     let at-put-pair = c .before .before .before in
     let at-put-one = put-one-before-put-pair at-put-pair in
-    let at-block-size = at-put-one .before .before in
-    let entry = entry-before-block-size at-block-size in (
+    let entry = entry-before-block-size (at-put-one .before .before) in (
       omega (arith, entry .pre .0 .1, entry .pre .0 .2),
-      part-zeros-room (entry .args .file .now) (entry .args .base) (entry .args .p) (entry .args .n) (entry .args .u) (entry .args .at)
-          (at-block-size .block-size .ensures) (entry .pre .1) (at-put-one .put-one .ensures) (at-put-pair .put-pair .ensures),
+      part-zeros-room (entry .args .file .now) (entry .args .base) (entry .args .p) (entry .args .n) (entry .args .u) (entry .args .at) (entry .pre .1) refl (at-put-one .put-one .ensures) refl (at-put-pair .put-pair .ensures),
     )
 
 put-block-requires : tie.Need-put-block-requires
@@ -60,11 +57,10 @@ put-block-requires c κs =
     let at-put-zeros = c .before .before .before in
     let at-put-pair = put-pair-before-put-zeros at-put-zeros in
     let at-put-one = put-one-before-put-pair at-put-pair in
-    let at-block-size = at-put-one .before .before in
-    let entry = entry-before-block-size at-block-size in (
+    let entry = entry-before-block-size (at-put-one .before .before) in (
       entry .pre .0 .0,
-      part-block-room (entry .args .file .now) (entry .args .base) (entry .args .p) (entry .args .n) (entry .args .u) (entry .args .at)
-          (at-block-size .block-size .ensures) (entry .pre .1) (at-put-one .put-one .ensures) (at-put-pair .put-pair .ensures) (at-put-zeros .put-zeros .ensures),
+      part-block-room (entry .args .file .now) (entry .args .base) (entry .args .p) (entry .args .n) (entry .args .u) (entry .args .at) (entry .pre .1) refl (at-put-one .put-one .ensures) refl (at-put-pair .put-pair .ensures)
+          (length-zeros _ _) (at-put-zeros .put-zeros .ensures),
     )
 
 same-length : tie.Need-same-length
@@ -77,8 +73,8 @@ returns c =
     let at-put-one = put-one-before-put-pair at-put-pair in
     let at-block-size = at-put-one .before .before in
     let entry = entry-before-block-size at-block-size in
-    part-wrote (entry .args .file .now) (entry .args .base) (entry .args .p) (entry .args .n) (entry .args .u) (entry .args .at)
-    (at-block-size .block-size .ensures) (entry .pre .1) (at-put-one .put-one .ensures) (at-put-pair .put-pair .ensures) (at-put-zeros .put-zeros .ensures)
+    part-wrote (entry .args .file .now) (entry .args .base) (entry .args .p) (entry .args .n) (entry .args .u) (entry .args .at) (entry .pre .1)
+    (at-block-size .block-size .ensures) (at-put-one .put-one .ensures) (at-put-pair .put-pair .ensures) (at-put-zeros .put-zeros .ensures)
     (c .before .before .put-block .ensures)
 
 pub put-part-spec : {M : Type 1} → statement M

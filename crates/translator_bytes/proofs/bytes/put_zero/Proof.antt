@@ -1,7 +1,8 @@
 -- `translator_bytes::bytes::put_zero` meets its contract.
 
-use Rattle.translator_bytes.specs.WriteLaws.{room-front, room-back, wrote-both}
+use Rattle.translator_bytes.specs.WriteLaws.{room-less, room-behind, wrote-after}
 use mathlib.Core.List.{[], _∷_}
+use native.Mathlib.Omega.{arith}
 use borrow.Author.Needs.{needs}
 use Rattle.translator_bytes.proofs.bytes.put_zero.Statement.{statement}
 use Rattle.translator_bytes.proofs.bytes.put_zero.Tie as tie
@@ -13,13 +14,13 @@ entry-before-put-two c = c .before .before .before
 put-two-requires : tie.Need-put-two-requires
 put-two-requires c κs =
     let entry = c .before .before in
-    room-front (1 ∷ entry .args .slot ∷ []) (0 ∷ 0 ∷ 0 ∷ 0 ∷ []) (entry .pre)
+    room-less (entry .pre) (omega arith)
 
 put-four-requires : tie.Need-put-four-requires
 put-four-requires c κs =
     let at-put-two = c .before .before .before in
     let entry = entry-before-put-two at-put-two in
-    room-back (1 ∷ entry .args .slot ∷ []) (0 ∷ 0 ∷ 0 ∷ 0 ∷ []) (entry .pre) (at-put-two .put-two .ensures)
+    room-behind 4 (entry .pre) (at-put-two .put-two .ensures) (omega arith)
 
 same-length : tie.Need-same-length
 same-length c = search needs
@@ -28,7 +29,7 @@ returns : tie.Need-returns
 returns c =
     let at-put-two = c .before .before .before .before .before .before in
     let entry = entry-before-put-two at-put-two in
-    wrote-both (1 ∷ entry .args .slot ∷ []) (0 ∷ 0 ∷ 0 ∷ 0 ∷ []) (entry .pre) (at-put-two .put-two .ensures) (c .before .before .put-four .ensures)
+    wrote-after (1 ∷ entry .args .slot ∷ []) (0 ∷ 0 ∷ 0 ∷ 0 ∷ []) (entry .pre) (omega arith) (at-put-two .put-two .ensures) (c .before .before .put-four .ensures)
 
 pub put-zero-spec : {M : Type 1} → statement M
 put-zero-spec = tie.close (tie.spec put-two-requires put-four-requires same-length returns)

@@ -1,6 +1,7 @@
 -- `translator_bytes::bytes::put_zeros` meets its contract.
 use mathlib.Core.Path.{_≡_}
-use Rattle.translator_bytes.specs.WriteLaws.{Rest, rest-none, rest-as, rest-more, rest-done, room-front, zeros-more}
+use Rattle.translator_bytes.specs.LengthLaws.{length-zeros}
+use Rattle.translator_bytes.specs.WriteLaws.{room-as, Rest, rest-none, rest-as, rest-more, rest-done, room-front, zeros-more}
 use Rattle.translator_bytes.specs.Bytes.{zeros}
 use mathlib.Core.List.{[], _∷_, _++_}
 use mathlib.Core.Path.{ap}
@@ -20,7 +21,9 @@ abbrev in-loop-before-slice-known2 : tie.After-slice-known2 Inv-loop μ-loop →
 in-loop-before-slice-known2 c = c .before .before .before .before
 
 loop-holds : tie.Need-loop-holds Inv-loop μ-loop
-loop-holds c = (rest-none (c .before .pre .1), c .before .pre .0)
+loop-holds c =
+    let entry = c .before in
+    (rest-none (room-as (length-zeros (entry .args .first) (entry .args .n)) (entry .pre .1)), entry .pre .0)
 
 sub-left : tie.Need-sub-left Inv-loop μ-loop
 sub-left c = omega arith

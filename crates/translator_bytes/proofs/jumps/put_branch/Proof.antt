@@ -1,5 +1,8 @@
 -- `translator_bytes::jumps::put_branch` meets its contract.
-use Rattle.translator_bytes.specs.JumpLaws.{branch-room, branch-pair-room, branch-then-room, branch-else-room, branch-wrote}
+use Rattle.translator_bytes.specs.JumpLaws.{branch-wrote}
+use Rattle.translator_bytes.specs.WriteLaws.{room-less, room-behind, room-behind-two}
+use Rattle.translator_bytes.specs.LengthLaws.{label-size}
+use Prim.Native.Nat.{_+_}
 use native.Mathlib.Omega.{arith}
 use borrow.Author.Needs.{needs}
 use Rattle.translator_bytes.proofs.jumps.put_branch.Statement.{statement}
@@ -23,32 +26,23 @@ jump-size-requires c κs = search needs
 
 put-three-requires : tie.Need-put-three-requires
 put-three-requires c κs =
-    let at-jump-size = c .before in
-    let at-slot-of2 = at-jump-size .before in
-    let entry = at-slot-of2 .before .before .before in
-    branch-room (entry .args .base) (entry .args .v) (entry .args .y .0) (entry .args .z .0) (entry .args .l) (entry .args .m) (at-slot-of2 .before .slot-of .ensures) (at-slot-of2 .slot-of2 .ensures) (at-jump-size .jump-size .ensures) (entry .pre .1)
+    let entry = c .before .before .before .before .before in
+    room-less (entry .pre .1) (omega arith)
 
 put-pair-requires : tie.Need-put-pair-requires
 put-pair-requires c κs =
     let at-put-three = c .before .before .before in
     let at-jump-size = at-put-three .before .before in
-    let at-slot-of2 = at-jump-size .before in
-    let entry = at-slot-of2 .before .before .before in (
-      omega (arith, at-jump-size .jump-size .ensures, entry .pre .0 .1),
-      branch-pair-room (entry .args .base) (entry .args .v) (entry .args .y .0) (entry .args .z .0) (entry .args .l)
-          (entry .args .m) (at-slot-of2 .before .slot-of .ensures) (at-slot-of2 .slot-of2 .ensures) (at-jump-size .jump-size .ensures) (entry .pre .1) (at-put-three .put-three .ensures),
-    )
+    let entry = at-jump-size .before .before .before .before in
+    (omega (arith, at-jump-size .jump-size .ensures, entry .pre .0 .1), room-behind 2 (entry .pre .1) (at-put-three .put-three .ensures) (omega arith))
 
 put-label-jump-requires : tie.Need-put-label-jump-requires
 put-label-jump-requires c κs =
     let at-put-pair = c .before .before .before in
     let at-put-three = put-three-before-put-pair at-put-pair in
-    let at-jump-size = at-put-three .before .before in
-    let at-slot-of2 = at-jump-size .before in
-    let entry = at-slot-of2 .before .before .before in (
+    let entry = at-put-three .before .before .before .before .before .before in (
       (entry .pre .0 .0, entry .pre .0 .1),
-      branch-then-room (entry .args .base) (entry .args .v) (entry .args .y .0) (entry .args .z .0) (entry .args .l) (entry .args .m) (at-slot-of2 .before .slot-of .ensures) (at-slot-of2 .slot-of2 .ensures) (at-jump-size .jump-size .ensures) (entry .pre .1)
-          (at-put-three .put-three .ensures) (at-put-pair .put-pair .ensures),
+      room-behind-two (6 + entry .args .v) (entry .pre .1) (at-put-three .put-three .ensures) (at-put-pair .put-pair .ensures) (omega arith),
     )
 
 put-label-jump-requires-2 : tie.Need-put-label-jump-requires-2
@@ -56,12 +50,11 @@ put-label-jump-requires-2 c κs =
     let at-put-label-jump = c .before .before .before in
     let at-put-pair = put-pair-before-put-label-jump at-put-label-jump in
     let at-put-three = put-three-before-put-pair at-put-pair in
-    let at-jump-size = at-put-three .before .before in
-    let at-slot-of2 = at-jump-size .before in
-    let entry = at-slot-of2 .before .before .before in (
+    let entry = at-put-three .before .before .before .before .before .before in
+    let v = entry .args .v in
+    let both = room-behind-two ((6 + v) + (6 + v)) (entry .pre .1) (at-put-three .put-three .ensures) (at-put-pair .put-pair .ensures) (omega arith) in (
       (entry .pre .0 .0, entry .pre .0 .1),
-      branch-else-room (entry .args .base) (entry .args .v) (entry .args .y .0) (entry .args .z .0) (entry .args .l) (entry .args .m) (at-slot-of2 .before .slot-of .ensures) (at-slot-of2 .slot-of2 .ensures) (at-jump-size .jump-size .ensures) (entry .pre .1)
-          (at-put-three .put-three .ensures) (at-put-pair .put-pair .ensures) (at-put-label-jump .put-label-jump .ensures),
+      room-behind (6 + v) both (at-put-label-jump .put-label-jump .ensures) (omega (arith, label-size (entry .args .base) v (entry .args .l))),
     )
 
 same-length : tie.Need-same-length

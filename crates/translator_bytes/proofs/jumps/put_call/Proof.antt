@@ -1,5 +1,7 @@
 -- `translator_bytes::jumps::put_call` meets its contract.
-use Rattle.translator_bytes.specs.JumpLaws.{plain-as, guarded-as, room-as, wrote-as}
+use Rattle.translator_bytes.specs.JumpLaws.{plain-as, guarded-as, plain-sum, guarded-sum, wrote-as}
+use Rattle.translator_bytes.specs.WriteLaws.{room-as}
+use mathlib.Core.Path.{refl}
 use Rattle.procedure_operations.specs.Operation.{argumentsAt}
 use borrow.Author.Needs.{needs}
 use Rattle.translator_bytes.proofs.jumps.put_call.Statement.{statement}
@@ -9,15 +11,14 @@ put-plain-call-requires : tie.Need-put-plain-call-requires
 put-plain-call-requires c κs =
     let entry = c .before .before .before .before .before in (
       (entry .pre .0 .1, entry .pre .0 .2, entry .pre .0 .3, entry .pre .0 .4, entry .pre .0 .5),
-      room-as (plain-as (entry .args .base) (entry .args .u) (entry .args .x .0) (entry .args .g) (entry .args .n)
-          (argumentsAt (entry .args .file .now) (entry .args .at) (entry .args .n)) (c .before .if1 .taken)) (entry .pre .1),
+      room-as (plain-sum (entry .args .u) (entry .args .n) (c .before .if1 .taken) refl) (entry .pre .1),
     )
 
 put-guarded-call-requires : tie.Need-put-guarded-call-requires
 put-guarded-call-requires c κs =
     let entry = c .before .before .before .before .before in (
       entry .pre .0,
-      room-as (guarded-as (entry .args .base) (entry .args .u) (entry .args .x .0) (entry .args .g) (entry .args .n) (argumentsAt (entry .args .file .now) (entry .args .at) (entry .args .n)) (c .before .if1 .left)) (entry .pre .1),
+      room-as (guarded-sum (entry .args .u) (entry .args .n) (c .before .if1 .left) refl refl refl) (entry .pre .1),
     )
 
 same-length : tie.Need-same-length

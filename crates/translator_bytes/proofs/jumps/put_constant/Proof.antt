@@ -1,5 +1,6 @@
 -- `translator_bytes::jumps::put_constant` meets its contract.
-use Rattle.translator_bytes.specs.JumpLaws.{ValueFits, constant-two-room, constant-four-room, constant-wrote}
+use Rattle.translator_bytes.specs.JumpLaws.{ValueFits, constant-wrote}
+use Rattle.translator_bytes.specs.WriteLaws.{room-less, room-behind}
 use native.Mathlib.Omega.{arith}
 use borrow.Author.Needs.{needs}
 use Rattle.translator_bytes.proofs.jumps.put_constant.Statement.{statement}
@@ -16,16 +17,14 @@ slot-of-requires c κs = search needs
 
 put-two-requires : tie.Need-put-two-requires
 put-two-requires c κs =
-    let at-slot-of = c .before in
-    let entry = at-slot-of .before .before in
-    constant-two-room (entry .args .x) (at-slot-of .slot-of .ensures) (entry .pre .1)
+    let entry = c .before .before .before in
+    room-less (entry .pre .1) (omega arith)
 
 put-four-requires : tie.Need-put-four-requires
 put-four-requires c κs =
     let at-put-two = c .before .before .before in
-    let at-slot-of = at-put-two .before .before in
-    let entry = at-slot-of .before .before in
-    constant-four-room (entry .args .x) (at-slot-of .slot-of .ensures) (entry .pre .1) (bytes-fit entry) (at-put-two .put-two .ensures)
+    let entry = at-put-two .before .before .before .before in
+    room-behind 4 (entry .pre .1) (at-put-two .put-two .ensures) (omega arith)
 
 same-length : tie.Need-same-length
 same-length c = search needs
@@ -35,7 +34,7 @@ returns c =
     let at-put-two = c .before .before .before .before .before .before in
     let at-slot-of = at-put-two .before .before in
     let entry = at-slot-of .before .before in
-    constant-wrote (entry .args .x) (at-slot-of .slot-of .ensures) (entry .pre .1) (bytes-fit entry) (at-put-two .put-two .ensures) (c .before .before .put-four .ensures)
+    constant-wrote (entry .args .x) (bytes-fit entry) (at-slot-of .slot-of .ensures) (entry .pre .1) (at-put-two .put-two .ensures) (c .before .before .put-four .ensures)
 
 pub put-constant-spec : {M : Type 1} → statement M
 put-constant-spec =

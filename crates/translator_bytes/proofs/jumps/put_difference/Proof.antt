@@ -1,5 +1,7 @@
 -- `translator_bytes::jumps::put_difference` meets its contract.
-use Rattle.translator_bytes.specs.JumpLaws.{difference-room, difference-pair-room, difference-raise-room, difference-wrote}
+use Rattle.translator_bytes.specs.JumpLaws.{difference-wrote}
+use Rattle.translator_bytes.specs.WriteLaws.{room-less, room-behind, room-behind-two}
+use Rattle.translator_bytes.specs.Bytes.{raiseSize}
 use native.Mathlib.Omega.{arith}
 use borrow.Author.Needs.{needs}
 use Rattle.translator_bytes.proofs.jumps.put_difference.Statement.{statement}
@@ -26,39 +28,23 @@ raise-size-requires c κs = search needs
 
 put-four-requires : tie.Need-put-four-requires
 put-four-requires c κs =
-    let at-raise-size = c .before in
-    let at-slot-of3 = at-raise-size .before in
-    let at-slot-of2 = at-slot-of3 .before in
-    let at-slot-of = at-slot-of2 .before in
-    let entry = at-slot-of .before .before in
-    difference-room (entry .args .base) (entry .args .u) (entry .args .x .0) (entry .args .y .0) (entry .args .z .0)
-    (at-slot-of .slot-of .ensures) (at-slot-of2 .slot-of2 .ensures) (at-slot-of3 .slot-of3 .ensures) (at-raise-size .raise-size .ensures .0) (entry .pre .1)
+    let entry = c .before .before .before .before .before .before in
+    room-less (entry .pre .1) (omega arith)
 
 put-pair-requires : tie.Need-put-pair-requires
 put-pair-requires c κs =
     let at-put-four = c .before .before .before in
     let at-raise-size = at-put-four .before .before in
-    let at-slot-of3 = slot-of3-before-put-four at-put-four in
-    let at-slot-of2 = at-slot-of3 .before in
-    let at-slot-of = at-slot-of2 .before in
-    let entry = at-slot-of .before .before in (
-      omega (arith, at-raise-size .raise-size .ensures .1),
-      difference-pair-room (entry .args .base) (entry .args .u) (entry .args .x .0) (entry .args .y .0) (entry .args .z .0)
-          (at-slot-of .slot-of .ensures) (at-slot-of2 .slot-of2 .ensures) (at-slot-of3 .slot-of3 .ensures) (at-raise-size .raise-size .ensures .0) (entry .pre .1) (at-put-four .put-four .ensures),
-    )
+    let entry = at-raise-size .before .before .before .before .before in
+    (omega (arith, at-raise-size .raise-size .ensures .1), room-behind 2 (entry .pre .1) (at-put-four .put-four .ensures) (omega arith))
 
 put-raise-requires : tie.Need-put-raise-requires
 put-raise-requires c κs =
     let at-put-pair = c .before .before .before in
     let at-put-four = put-four-before-put-pair at-put-pair in
-    let at-raise-size = at-put-four .before .before in
-    let at-slot-of3 = slot-of3-before-put-four at-put-four in
-    let at-slot-of2 = at-slot-of3 .before in
-    let at-slot-of = at-slot-of2 .before in
-    let entry = at-slot-of .before .before in (
+    let entry = slot-of3-before-put-four at-put-four .before .before .before .before in (
       (entry .pre .0 .0, entry .pre .0 .1),
-      difference-raise-room (entry .args .base) (entry .args .u) (entry .args .x .0) (entry .args .y .0) (entry .args .z .0)
-          (at-slot-of .slot-of .ensures) (at-slot-of2 .slot-of2 .ensures) (at-slot-of3 .slot-of3 .ensures) (at-raise-size .raise-size .ensures .0) (entry .pre .1) (at-put-four .put-four .ensures) (at-put-pair .put-pair .ensures),
+      room-behind-two (raiseSize (entry .args .u)) (entry .pre .1) (at-put-four .put-four .ensures) (at-put-pair .put-pair .ensures) (omega arith),
     )
 
 same-length : tie.Need-same-length

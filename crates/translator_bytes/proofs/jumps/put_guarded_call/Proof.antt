@@ -1,5 +1,8 @@
 -- `translator_bytes::jumps::put_guarded_call` meets its contract.
-use Rattle.translator_bytes.specs.JumpLaws.{guarded-room, guarded-pair-room, guarded-jump-room, guarded-length-room, guarded-label-room, guarded-wrote}
+use Rattle.translator_bytes.specs.JumpLaws.{guarded-pair-room, guarded-jump-room, guarded-length-room, guarded-label-room, guarded-wrote}
+use Rattle.translator_bytes.specs.WriteLaws.{room-less}
+use Rattle.translator_bytes.specs.LengthLaws.{call-size, head-size}
+use mathlib.Core.Path.{refl}
 use native.Mathlib.Omega.{arith}
 use Rattle.procedure_operations.specs.Operation.{argumentsAt}
 use borrow.Author.Needs.{needs}
@@ -39,35 +42,25 @@ jump-size-requires-2 c κs = search needs
 
 put-guarded-head-requires : tie.Need-put-guarded-head-requires
 put-guarded-head-requires c κs =
-    let at-jump-size2 = c .before in
-    let at-jump-size = at-jump-size2 .before in
-    let entry = entry-before-jump-size at-jump-size in
-    guarded-room (entry .args .base) (entry .args .u) (entry .args .x .0) (entry .args .g) (entry .args .n)
-    (argumentsAt (entry .args .file .now) (entry .args .at) (entry .args .n)) (at-jump-size .before .slot-of .ensures) (at-jump-size .jump-size .ensures) (at-jump-size2 .jump-size2 .ensures) (entry .pre .1)
+    let entry = entry-before-jump-size (c .before .before) in
+    room-less (entry .pre .1) (omega arith)
 
 put-pair-requires : tie.Need-put-pair-requires
 put-pair-requires c κs =
     let at-put-guarded-head = c .before .before .before in
-    let at-jump-size2 = at-put-guarded-head .before .before in
-    let at-jump-size = at-jump-size2 .before in
+    let at-jump-size = at-put-guarded-head .before .before .before in
     let entry = entry-before-jump-size at-jump-size in (
       omega (arith, at-jump-size .jump-size .ensures, entry .pre .0 .3),
-      guarded-pair-room (entry .args .base) (entry .args .u) (entry .args .x .0) (entry .args .g)
-          (entry .args .n) (argumentsAt (entry .args .file .now) (entry .args .at) (entry .args .n)) (at-jump-size .before .slot-of .ensures) (at-jump-size .jump-size .ensures) (at-jump-size2 .jump-size2 .ensures)
-          (entry .pre .1) (at-put-guarded-head .put-guarded-head .ensures),
+      guarded-pair-room (entry .args .u .number) (entry .args .n) (entry .args .u .variables) (entry .pre .1) (head-size _ _ _ _) (at-put-guarded-head .put-guarded-head .ensures),
     )
 
 put-call-jump-requires : tie.Need-put-call-jump-requires
 put-call-jump-requires c κs =
     let at-put-pair = c .before .before .before in
     let at-put-guarded-head = put-guarded-head-before-put-pair at-put-pair in
-    let at-jump-size2 = at-put-guarded-head .before .before in
-    let at-jump-size = at-jump-size2 .before in
-    let entry = entry-before-jump-size at-jump-size in (
+    let entry = entry-before-jump-size (at-put-guarded-head .before .before .before) in (
       (entry .pre .0 .4, entry .pre .0 .5),
-      guarded-jump-room (entry .args .base) (entry .args .u) (entry .args .x .0) (entry .args .g) (entry .args .n)
-          (argumentsAt (entry .args .file .now) (entry .args .at) (entry .args .n)) (at-jump-size .before .slot-of .ensures) (at-jump-size .jump-size .ensures) (at-jump-size2 .jump-size2 .ensures) (entry .pre .1)
-          (at-put-guarded-head .put-guarded-head .ensures) (at-put-pair .put-pair .ensures),
+      guarded-jump-room (entry .args .u .number) (entry .args .n) (entry .args .u .variables) (entry .pre .1) (head-size _ _ _ _) refl (at-put-guarded-head .put-guarded-head .ensures) (at-put-pair .put-pair .ensures),
     )
 
 put-pair-requires-2 : tie.Need-put-pair-requires-2
@@ -76,12 +69,10 @@ put-pair-requires-2 c κs =
     let at-put-pair = put-pair-before-put-call-jump at-put-call-jump in
     let at-put-guarded-head = put-guarded-head-before-put-pair at-put-pair in
     let at-jump-size2 = at-put-guarded-head .before .before in
-    let at-jump-size = at-jump-size2 .before in
-    let entry = entry-before-jump-size at-jump-size in (
+    let entry = entry-before-jump-size (at-jump-size2 .before) in (
       omega (arith, at-jump-size2 .jump-size2 .ensures, entry .pre .0 .1),
-      guarded-length-room (entry .args .base) (entry .args .u) (entry .args .x .0) (entry .args .g) (entry .args .n)
-          (argumentsAt (entry .args .file .now) (entry .args .at) (entry .args .n)) (at-jump-size .before .slot-of .ensures) (at-jump-size .jump-size .ensures) (at-jump-size2 .jump-size2 .ensures) (entry .pre .1)
-          (at-put-guarded-head .put-guarded-head .ensures) (at-put-pair .put-pair .ensures) (at-put-call-jump .put-call-jump .ensures),
+      guarded-length-room (entry .args .u .number) (entry .args .n) (entry .args .u .variables) (entry .pre .1) (head-size _ _ _ _) refl (at-put-guarded-head .put-guarded-head .ensures)
+          (at-put-pair .put-pair .ensures) (call-size _ _ _ _ _ (entry .pre .0 .5 .long)) (at-put-call-jump .put-call-jump .ensures),
     )
 
 put-label-jump-requires : tie.Need-put-label-jump-requires
@@ -90,13 +81,10 @@ put-label-jump-requires c κs =
     let at-put-call-jump = put-call-jump-before-put-pair2 at-put-pair2 in
     let at-put-pair = put-pair-before-put-call-jump at-put-call-jump in
     let at-put-guarded-head = put-guarded-head-before-put-pair at-put-pair in
-    let at-jump-size2 = at-put-guarded-head .before .before in
-    let at-jump-size = at-jump-size2 .before in
-    let entry = entry-before-jump-size at-jump-size in (
+    let entry = entry-before-jump-size (at-put-guarded-head .before .before .before) in (
       (entry .pre .0 .0, entry .pre .0 .1),
-      guarded-label-room (entry .args .base) (entry .args .u) (entry .args .x .0) (entry .args .g) (entry .args .n)
-          (argumentsAt (entry .args .file .now) (entry .args .at) (entry .args .n)) (at-jump-size .before .slot-of .ensures) (at-jump-size .jump-size .ensures) (at-jump-size2 .jump-size2 .ensures) (entry .pre .1)
-          (at-put-guarded-head .put-guarded-head .ensures) (at-put-pair .put-pair .ensures) (at-put-call-jump .put-call-jump .ensures) (at-put-pair2 .put-pair2 .ensures),
+      guarded-label-room (entry .args .u .number) (entry .args .n) (entry .args .u .variables) (entry .pre .1) (head-size _ _ _ _) refl (at-put-guarded-head .put-guarded-head .ensures)
+          (at-put-pair .put-pair .ensures) (call-size _ _ _ _ _ (entry .pre .0 .5 .long)) (at-put-call-jump .put-call-jump .ensures) refl (at-put-pair2 .put-pair2 .ensures),
     )
 
 same-length : tie.Need-same-length
@@ -112,7 +100,7 @@ returns c =
     let at-jump-size = at-jump-size2 .before in
     let entry = entry-before-jump-size at-jump-size in
     guarded-wrote (entry .args .base) (entry .args .u) (entry .args .x .0) (entry .args .g) (entry .args .n)
-    (argumentsAt (entry .args .file .now) (entry .args .at) (entry .args .n)) (at-jump-size .before .slot-of .ensures) (at-jump-size .jump-size .ensures) (at-jump-size2 .jump-size2 .ensures) (entry .pre .1)
+    (argumentsAt (entry .args .file .now) (entry .args .at) (entry .args .n)) (at-jump-size .before .slot-of .ensures) (at-jump-size .jump-size .ensures) (at-jump-size2 .jump-size2 .ensures) (entry .pre .0 .5 .long) (entry .pre .1)
     (at-put-guarded-head .put-guarded-head .ensures) (at-put-pair .put-pair .ensures) (at-put-call-jump .put-call-jump .ensures) (at-put-pair2 .put-pair2 .ensures)
     (c .before .before .put-label-jump .ensures)
 

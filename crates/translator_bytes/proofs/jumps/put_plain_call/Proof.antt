@@ -1,5 +1,7 @@
 -- `translator_bytes::jumps::put_plain_call` meets its contract.
-use Rattle.translator_bytes.specs.JumpLaws.{plain-room, plain-pair-room, plain-jump-room, plain-wrote}
+use Rattle.translator_bytes.specs.JumpLaws.{plain-wrote}
+use Rattle.translator_bytes.specs.WriteLaws.{room-less, room-behind, room-behind-two}
+use Prim.Native.Nat.{_+_}
 use native.Mathlib.Omega.{arith}
 use Rattle.procedure_operations.specs.Operation.{argumentsAt}
 use borrow.Author.Needs.{needs}
@@ -24,10 +26,8 @@ jump-size-requires c κs = search needs
 
 put-three-requires : tie.Need-put-three-requires
 put-three-requires c κs =
-    let at-jump-size = c .before in
-    let entry = entry-before-jump-size at-jump-size in
-    plain-room (entry .args .v) (entry .args .x .0) (entry .args .g) (entry .args .n) (argumentsAt (entry .args .file .now) (entry .args .at) (entry .args .n))
-    (at-jump-size .before .slot-of .ensures) (at-jump-size .jump-size .ensures) (entry .pre .1)
+    let entry = entry-before-jump-size (c .before) in
+    room-less (entry .pre .1) (omega arith)
 
 put-pair-requires : tie.Need-put-pair-requires
 put-pair-requires c κs =
@@ -35,7 +35,7 @@ put-pair-requires c κs =
     let at-jump-size = at-put-three .before .before in
     let entry = entry-before-jump-size at-jump-size in (
       omega (arith, at-jump-size .jump-size .ensures, entry .pre .0 .2),
-      plain-pair-room (entry .args .v) (entry .args .x .0) (entry .args .g) (entry .args .n) (argumentsAt (entry .args .file .now) (entry .args .at) (entry .args .n)) (at-jump-size .before .slot-of .ensures) (at-jump-size .jump-size .ensures) (entry .pre .1) (at-put-three .put-three .ensures),
+      room-behind 2 (entry .pre .1) (at-put-three .put-three .ensures) (omega arith),
     )
 
 put-call-jump-requires : tie.Need-put-call-jump-requires
@@ -45,7 +45,7 @@ put-call-jump-requires c κs =
     let at-jump-size = at-put-three .before .before in
     let entry = entry-before-jump-size at-jump-size in (
       (entry .pre .0 .3, entry .pre .0 .4),
-      plain-jump-room (entry .args .v) (entry .args .x .0) (entry .args .g) (entry .args .n) (argumentsAt (entry .args .file .now) (entry .args .at) (entry .args .n)) (at-jump-size .before .slot-of .ensures) (at-jump-size .jump-size .ensures) (entry .pre .1) (at-put-three .put-three .ensures) (at-put-pair .put-pair .ensures),
+      room-behind-two (6 + entry .args .n) (entry .pre .1) (at-put-three .put-three .ensures) (at-put-pair .put-pair .ensures) (omega arith),
     )
 
 same-length : tie.Need-same-length

@@ -1,8 +1,10 @@
 -- `translator_bytes::jumps::put_raise_end` meets its contract.
-use Rattle.translator_bytes.specs.JumpLaws.{uncaught-as, caught-as, room-as, wrote-as}
-use Rattle.translator_bytes.specs.WriteLaws.{room-front, room-back, wrote-both}
-use Rattle.translator_bytes.specs.Bytes.{ifAny}
+use Rattle.translator_bytes.specs.JumpLaws.{uncaught-as, caught-as, uncaught-end, caught-end, wrote-as}
+use Rattle.translator_bytes.specs.WriteLaws.{room-less, room-as, room-behind, wrote-after}
+use Rattle.translator_bytes.specs.Bytes.{ifAny, sizeIfAny}
 use mathlib.Core.List.{[], _∷_}
+use mathlib.Core.Path.{refl}
+use native.Mathlib.Omega.{arith}
 use borrow.Author.Needs.{needs}
 use Rattle.translator_bytes.proofs.jumps.put_raise_end.Statement.{statement}
 use Rattle.translator_bytes.proofs.jumps.put_raise_end.Tie as tie
@@ -11,19 +13,20 @@ put-two-requires : tie.Need-put-two-requires
 put-two-requires c κs =
     let at-if1 = c .before in
     let entry = at-if1 .before .before .before in
-    room-front (6 ∷ 1 ∷ []) (ifAny (entry .args .u .number) (entry .args .u .number ∷ [])) (room-as (uncaught-as (entry .args .base) (entry .args .u) (at-if1 .if1 .taken)) (entry .pre .1))
+    room-less (entry .pre .1) (omega (arith, uncaught-end (entry .args .u) (at-if1 .if1 .taken) refl))
 
 put-slot-if-any-requires : tie.Need-put-slot-if-any-requires
+unfolding sizeIfAny
 put-slot-if-any-requires c κs =
     let at-put-two = c .before .before .before in
     let at-if1 = at-put-two .before .before in
     let entry = at-if1 .before .before .before in
-    room-back (6 ∷ 1 ∷ []) (ifAny (entry .args .u .number) (entry .args .u .number ∷ [])) (room-as (uncaught-as (entry .args .base) (entry .args .u) (at-if1 .if1 .taken)) (entry .pre .1)) (at-put-two .put-two .ensures)
+    room-behind _ (entry .pre .1) (at-put-two .put-two .ensures) (omega (arith, uncaught-end (entry .args .u) (at-if1 .if1 .taken) refl))
 
 put-label-jump-requires : tie.Need-put-label-jump-requires
 put-label-jump-requires c κs =
     let entry = c .before .before .before .before in
-    (entry .pre .0, room-as (caught-as (entry .args .base) (entry .args .u) (c .before .if1 .left)) (entry .pre .1))
+    (entry .pre .0, room-as (caught-end (entry .args .u) (c .before .if1 .left) refl) (entry .pre .1))
 
 same-length : tie.Need-same-length
 same-length c = search needs
@@ -34,7 +37,7 @@ returns c =
     let at-if1 = at-put-two .before .before in
     let entry = at-if1 .before .before .before in
     wrote-as (uncaught-as (entry .args .base) (entry .args .u) (at-if1 .if1 .taken))
-    (wrote-both (6 ∷ 1 ∷ []) (ifAny (entry .args .u .number) (entry .args .u .number ∷ [])) (room-as (uncaught-as (entry .args .base) (entry .args .u) (at-if1 .if1 .taken)) (entry .pre .1)) (at-put-two .put-two .ensures) (c .before .before .put-slot-if-any .ensures))
+    (wrote-after (6 ∷ 1 ∷ []) (ifAny (entry .args .u .number) (entry .args .u .number ∷ [])) (entry .pre .1) (omega (arith, uncaught-end (entry .args .u) (at-if1 .if1 .taken) refl)) (at-put-two .put-two .ensures) (c .before .before .put-slot-if-any .ensures))
 
 same-length-2 : tie.Need-same-length-2
 same-length-2 c = search needs

@@ -1,6 +1,6 @@
 -- `translator_bytes::jumps::put_slot_if_any` meets its contract.
-use Rattle.translator_bytes.specs.JumpLaws.{none-as, any-as, room-as, wrote-as}
-use Rattle.translator_bytes.specs.WriteLaws.{wrote-none}
+use Rattle.translator_bytes.specs.JumpLaws.{none-as, any-as, any-sum, wrote-as}
+use Rattle.translator_bytes.specs.WriteLaws.{room-as, wrote-none}
 use mathlib.Core.List.{[], _∷_}
 use borrow.Author.Needs.{needs}
 use Rattle.translator_bytes.proofs.jumps.put_slot_if_any.Statement.{statement}
@@ -9,7 +9,7 @@ use Rattle.translator_bytes.proofs.jumps.put_slot_if_any.Tie as tie
 put-one-requires : tie.Need-put-one-requires
 put-one-requires c κs =
     let entry = c .before .before .before in
-    room-as (any-as (entry .args .slot) (entry .args .slot ∷ []) (c .before .if1 .left)) (entry .pre)
+    room-as (any-sum (entry .args .slot) 1 (c .before .if1 .left)) (entry .pre)
 
 returns : tie.Need-returns
 returns c =

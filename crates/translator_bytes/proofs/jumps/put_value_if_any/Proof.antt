@@ -1,6 +1,6 @@
 -- `translator_bytes::jumps::put_value_if_any` meets its contract.
-use Rattle.translator_bytes.specs.JumpLaws.{none-as, any-value-as, room-as, wrote-as}
-use Rattle.translator_bytes.specs.WriteLaws.{wrote-none}
+use Rattle.translator_bytes.specs.JumpLaws.{none-as, any-value-as, any-sum, wrote-as}
+use Rattle.translator_bytes.specs.WriteLaws.{room-as, wrote-none}
 use Prim.Native.Nat.{_+_}
 use mathlib.Core.List.{[], _∷_}
 use borrow.Author.Needs.{needs}
@@ -12,9 +12,8 @@ slot-of-requires c κs = search needs
 
 put-three-requires : tie.Need-put-three-requires
 put-three-requires c κs =
-    let at-slot-of = c .before .before in
-    let entry = at-slot-of .before .before in
-    room-as (any-value-as (entry .args .slot) (entry .args .y .0) (at-slot-of .slot-of .ensures) (c .before .if1 .left)) (entry .pre .1)
+    let entry = c .before .before .before .before in
+    room-as (any-sum (entry .args .slot) 3 (c .before .if1 .left)) (entry .pre .1)
 
 returns : tie.Need-returns
 returns c =

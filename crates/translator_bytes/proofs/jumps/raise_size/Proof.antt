@@ -1,5 +1,5 @@
 -- `translator_bytes::jumps::raise_size` meets its contract.
-use Rattle.translator_bytes.specs.JumpLaws.{uncaught-sum, caught-sum}
+use Rattle.translator_bytes.specs.JumpLaws.{uncaught-end, caught-end, raise-sum}
 use native.Mathlib.Omega.{arith}
 use borrow.Author.Needs.{needs}
 use Rattle.translator_bytes.proofs.jumps.raise_size.Statement.{statement}
@@ -31,7 +31,7 @@ returns c =
     let at-size-if-any2 = c .before .before in
     let at-size-if-any = at-size-if-any2 .before in
     let entry = at-size-if-any .before .before .before in (
-      uncaught-sum (entry .args .u) (c .if1 .taken) (at-size-if-any .size-if-any .ensures .0) (at-size-if-any2 .size-if-any2 .ensures .0),
+      raise-sum (entry .args .u) (at-size-if-any .size-if-any .ensures .0) (uncaught-end (entry .args .u) (c .if1 .taken) (at-size-if-any2 .size-if-any2 .ensures .0)),
       omega (arith, at-size-if-any .size-if-any .ensures .1, at-size-if-any2 .size-if-any2 .ensures .1),
     )
 
@@ -40,7 +40,7 @@ returns-2 c =
     let at-size-if-any = c .before .before .before in
     let at-jump-size = at-size-if-any .before in
     let entry = at-jump-size .before .before in (
-      caught-sum (entry .args .u) (c .if1 .left) (at-size-if-any .size-if-any .ensures .0) (at-jump-size .jump-size .ensures),
+      raise-sum (entry .args .u) (at-size-if-any .size-if-any .ensures .0) (caught-end (entry .args .u) (c .if1 .left) (at-jump-size .jump-size .ensures)),
       omega (arith, at-size-if-any .size-if-any .ensures .1, at-jump-size .jump-size .ensures, entry .pre),
     )
 
