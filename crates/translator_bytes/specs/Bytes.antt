@@ -40,7 +40,7 @@ guardedHead k x t q = (9 ∷ k ∷ x ∷ t ∷ []) ++ ifAny q (q ∷ [])
 
 unfoldable pub guardedCall : ℕ → Under → ℕ → ℕ → ℕ → List ℕ → List ℕ
 guardedCall base u x g n ys =
-    guardedHead (u .variables + 2) (x + 2) (u .variables + 3) (u .number)
+    guardedHead (u .variables + 2) (x + 2) (u .variables + 3) (u .numberSlot)
     ++ (pairBytes (6 + n)
     ++ (callJump g (u .variables + 2) (u .variables + 3) n ys ++ (pairBytes (6 + u .variables) ++ labelJump base (u .variables) (u .handler))))
 
@@ -52,13 +52,13 @@ branchBytes base v y z l m =
 -- "a 0 leaving the function is first bound to V+4"; "a raise inside its function binds the receiver, if any .., and jumps" (Slip 7).
 unfoldable pub raiseEnd : ℕ → Under → List ℕ
 raiseEnd base u =
-    cond (eqb (u .handler) 0) ((6 ∷ 1 ∷ []) ++ ifAny (u .number) (u .number ∷ [])) (labelJump base (u .variables) (u .handler))
+    cond (eqb (u .handler) 0) ((6 ∷ 1 ∷ []) ++ ifAny (u .numberSlot) (u .numberSlot ∷ [])) (labelJump base (u .variables) (u .handler))
 
 unfoldable pub raiseBytes : ℕ → Under → List ℕ
 raiseBytes base u = ifAny (u .bound) ((1 ∷ u .bound ∷ []) ++ (0 ∷ 0 ∷ 0 ∷ 0 ∷ [])) ++ raiseEnd base u
 
 unfoldable pub raiseEndSize : Under → ℕ
-raiseEndSize u = cond (eqb (u .handler) 0) (2 + sizeIfAny (u .number) 1) (6 + u .variables)
+raiseEndSize u = cond (eqb (u .handler) 0) (2 + sizeIfAny (u .numberSlot) 1) (6 + u .variables)
 
 unfoldable pub raiseSize : Under → ℕ
 raiseSize u = sizeIfAny (u .bound) 6 + raiseEndSize u
@@ -102,7 +102,7 @@ operationBytes numbers base u s at (Refused r) = []
 
 -- How many bytes these are.
 unfoldable pub callSize : Under → ℕ → ℕ
-callSize u n = cond (eqb (u .handler) 0) (5 + (6 + n)) (8 + sizeIfAny (u .number) 1 + ((6 + n) + (6 + u .variables)))
+callSize u n = cond (eqb (u .handler) 0) (5 + (6 + n)) (8 + sizeIfAny (u .numberSlot) 1 + ((6 + n) + (6 + u .variables)))
 
 abbrev pub operationSize : Under → Operation → ℕ
 operationSize u (Constant x i next) = 6

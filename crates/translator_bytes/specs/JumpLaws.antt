@@ -90,20 +90,20 @@ module _ (q n v : ℕ) {o a b : ℕ} {head pair d d₁ d₂ : List ℕ} (R : Roo
     guarded-label-room e Z = room-behind-two (6 + v) behind-length Y Z (omega arith)
 
 module _ (base : ℕ) (u : Under) (x g n : ℕ) (ys : List ℕ) {t o j k a b c f : ℕ} {d d₁ d₂ d₃ d₄ : List ℕ} (et : t ≡ x + 2) (e : j ≡ 6 + n) (ek : k ≡ 6 + u .variables) (long : length ys ≡ n)
-    (R : Room o (8 + sizeIfAny (u .number) 1 + ((6 + n) + (6 + u .variables))) d) (W : Wrote o (guardedHead (u .variables + 2) t (u .variables + 3) (u .number)) d a d₁) (X : Wrote a (pairBytes j) d₁ b d₂)
+    (R : Room o (8 + sizeIfAny (u .numberSlot) 1 + ((6 + n) + (6 + u .variables))) d) (W : Wrote o (guardedHead (u .variables + 2) t (u .variables + 3) (u .numberSlot)) d a d₁) (X : Wrote a (pairBytes j) d₁ b d₂)
     (Y : Wrote b (callJump g (u .variables + 2) (u .variables + 3) n ys) d₂ c d₃) (Z : Wrote c (pairBytes k) d₃ f d₄) where
   pub guarded-wrote : {r : ℕ} {d₅ : List ℕ} → Wrote f (labelJump base (u .variables) (u .handler)) d₄ r d₅ → Wrote o (guardedCall base u x g n ys) d r d₅
   unfolding guardedCall
   guarded-wrote Q =
       let v = u .variables in
-      let head = guardedHead (v + 2) t (v + 3) (u .number) in
-      let slots : length head ≡ 4 + sizeIfAny (u .number) 1 = head-size (v + 2) t (v + 3) (u .number) in
+      let head = guardedHead (v + 2) t (v + 3) (u .numberSlot) in
+      let slots : length head ≡ 4 + sizeIfAny (u .numberSlot) 1 = head-size (v + 2) t (v + 3) (u .numberSlot) in
       let jump = callJump g (v + 2) (v + 3) n ys in
       let whole : length jump ≡ 6 + n = call-size g (v + 2) (v + 3) n ys long in
       let label = labelJump base v (u .handler) in
       rw (← et)
       (part-wrote head (jump ++ (pairBytes (6 + v) ++ label)) e R (omega arith) W X
-      (part-wrote jump label ek (behind-length (u .number) n v R slots refl W X) (omega arith) Y Z Q))
+      (part-wrote jump label ek (behind-length (u .numberSlot) n v R slots refl W X) (omega arith) Y Z Q))
 
 module _ (base v y z l m : ℕ) {t u o j a b c : ℕ} {d d₁ d₂ d₃ : List ℕ} (et : t ≡ y + 2) (eu : u ≡ z + 2) (e : j ≡ 6 + v) (R : Room o (5 + ((6 + v) + (6 + v))) d) where
   pub branch-wrote : Wrote o (7 ∷ t ∷ u ∷ []) d a d₁ → Wrote a (pairBytes j) d₁ b d₂ → Wrote b (labelJump base v l) d₂ c d₃ → {r : ℕ} {d₄ : List ℕ}
@@ -133,7 +133,7 @@ module _ (base : ℕ) (u : Under) (x g n : ℕ) (ys : List ℕ) where
   guarded-as e = rw (ne-eqb (u .handler) 0 e)
 
 module _ (base : ℕ) (u : Under) where
-  pub uncaught-as : u .handler ≡ 0 → raiseEnd base u ≡ (6 ∷ 1 ∷ []) ++ ifAny (u .number) (u .number ∷ [])
+  pub uncaught-as : u .handler ≡ 0 → raiseEnd base u ≡ (6 ∷ 1 ∷ []) ++ ifAny (u .numberSlot) (u .numberSlot ∷ [])
   unfolding raiseEnd
   uncaught-as e = rw (eq-eqb (u .handler) 0 e)
 
@@ -150,7 +150,7 @@ module _ (base : ℕ) (u : Under) where
   value-caught-as y e = rw (ne-eqb (u .handler) 0 e)
 
 module _ (u : Under) where
-  pub uncaught-end : {b : ℕ} → u .handler ≡ 0 → b ≡ sizeIfAny (u .number) 1 → 2 + b ≡ raiseEndSize u
+  pub uncaught-end : {b : ℕ} → u .handler ≡ 0 → b ≡ sizeIfAny (u .numberSlot) 1 → 2 + b ≡ raiseEndSize u
   unfolding raiseEndSize
   uncaught-end e q = rw (eq-eqb (u .handler) 0 e, q)
 
@@ -174,7 +174,7 @@ module _ (u : Under) where
   unfolding callSize
   plain-sum n e q = rw (eq-eqb (u .handler) 0 e, q)
 
-  pub guarded-sum : (n : ℕ) {j k i : ℕ} → (u .handler ≡ 0 → ⊥) → j ≡ 6 + n → k ≡ 6 + u .variables → i ≡ sizeIfAny (u .number) 1 → 8 + i + (j + k) ≡ callSize u n
+  pub guarded-sum : (n : ℕ) {j k i : ℕ} → (u .handler ≡ 0 → ⊥) → j ≡ 6 + n → k ≡ 6 + u .variables → i ≡ sizeIfAny (u .numberSlot) 1 → 8 + i + (j + k) ≡ callSize u n
   unfolding callSize
   guarded-sum n e q r t = rw (ne-eqb (u .handler) 0 e, q, r, t)
 

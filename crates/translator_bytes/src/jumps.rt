@@ -18,7 +18,7 @@ pub struct Under {
     pub variables: u8,
     pub handler: u8,
     pub bound: u8,
-    pub number: u8,
+    pub numberSlot: u8,
 }
 
 // n bytes of a slot, if any.
@@ -157,7 +157,7 @@ fn put_guarded_call(
     n: u8,
 ) -> usize
     requires { ⌜ (base ≤ 2048) × (u .variables ≤ maxVariables) × (x .0 < maxVariables) × (n ≤ maxVariables) × (g < 65536) × CallStands (now file) at n ⌝ }
-    requires { ⌜ Room o (8 + sizeIfAny (u .number) 1 + ((6 + n) + (6 + u .variables))) (now out) ⌝ }
+    requires { ⌜ Room o (8 + sizeIfAny (u .numberSlot) 1 + ((6 + n) + (6 + u .variables))) (now out) ⌝ }
     ensures { λ r. ⌜ Wrote o (guardedCall base u (x .0) g n (argumentsAt (now (file .entry)) at n)) (now (out .entry)) r (now (out .exit)) ⌝ }
 {
     let v = u.variables;
@@ -166,7 +166,7 @@ fn put_guarded_call(
     let t = v + 3;
     let size = jump_size(n as usize);
     let other = jump_size(v as usize);
-    let a = put_guarded_head(out, o, k, target, t, u.number);
+    let a = put_guarded_head(out, o, k, target, t, u.numberSlot);
     let b = bytes::put_pair(out, a, size);
     let e = put_call_jump(file, at, out, b, g, k, t, n);
     let f = bytes::put_pair(out, e, other);
@@ -227,7 +227,7 @@ pub fn raise_size(u: Under) -> usize
 {
     let jump = jump_size(u.variables as usize);
     let first = size_if_any(u.bound, 6);
-    let last = size_if_any(u.number, 1);
+    let last = size_if_any(u.numberSlot, 1);
     if u.handler == 0 {
         first + (2 + last)
     } else {
@@ -243,7 +243,7 @@ fn put_raise_end(out: &mut [u8], o: usize, base: usize, u: Under) -> usize
 {
     if u.handler == 0 {
         let a = bytes::put_two(out, o, 6, 1);
-        put_slot_if_any(out, a, u.number)
+        put_slot_if_any(out, a, u.numberSlot)
     } else {
         put_label_jump(out, o, base, u.variables, u.handler)
     }

@@ -29,7 +29,7 @@ boundSlot F (suc l) = receiverSlot (receiverAt F (suc l))
 -- What a block of F with handler h is translated under.
 unfoldable pub underOf : Function → Handler → Under
 underOf F h =
-    record { variables = variables F; handler = h; bound = slotByte (boundSlot F h); number = slotByte (parameterSlot F (receiverAt F h)) }
+    record { variables = variables F; handler = h; bound = slotByte (boundSlot F h); numberSlot = slotByte (parameterSlot F (receiverAt F h)) }
 
 -- The bytes that a block becomes, operation by operation.
 abbrev pub bodyBytes : (ℕ → ℕ) → ℕ → Under → Block → List ℕ

@@ -21,15 +21,15 @@ unfolding plainCall
 plain-size v x g n ys e = let a = call-size g (v + 2) 1 n ys e in omega arith
 
 pub guarded-size : (base : ℕ) (u : Under) (x g n : ℕ) (ys : List ℕ) → length ys ≡ n
-    → length (guardedCall base u x g n ys) ≡ 8 + sizeIfAny (u .number) 1 + ((6 + n) + (6 + u .variables))
+    → length (guardedCall base u x g n ys) ≡ 8 + sizeIfAny (u .numberSlot) 1 + ((6 + n) + (6 + u .variables))
 unfolding guardedCall
 guarded-size base u x g n ys e =
     let v = u .variables in
     let a = call-size g (v + 2) (v + 3) n ys e in
     let b = label-size base v (u .handler) in
     let c = length-append (callJump g (v + 2) (v + 3) n ys) (pairBytes (6 + v) ++ labelJump base v (u .handler)) in
-    let head = guardedHead (v + 2) (x + 2) (v + 3) (u .number) in
-    let d = head-size (v + 2) (x + 2) (v + 3) (u .number) in
+    let head = guardedHead (v + 2) (x + 2) (v + 3) (u .numberSlot) in
+    let d = head-size (v + 2) (x + 2) (v + 3) (u .numberSlot) in
     let f = length-append head (pairBytes (6 + n) ++ (callJump g (v + 2) (v + 3) n ys ++ (pairBytes (6 + v) ++ labelJump base v (u .handler)))) in
     omega arith
 
@@ -38,7 +38,7 @@ unfolding callBytes callSize
 called-size base u x g n ys e = by (eqb (u .handler) 0)
   where
     by : (t : Bool)
-        → length (cond t (plainCall (u .variables) x g n ys) (guardedCall base u x g n ys)) ≡ cond t (5 + (6 + n)) (8 + sizeIfAny (u .number) 1 + ((6 + n) + (6 + u .variables)))
+        → length (cond t (plainCall (u .variables) x g n ys) (guardedCall base u x g n ys)) ≡ cond t (5 + (6 + n)) (8 + sizeIfAny (u .numberSlot) 1 + ((6 + n) + (6 + u .variables)))
     by true = plain-size (u .variables) x g n ys e
     by false = guarded-size base u x g n ys e
 
@@ -56,8 +56,8 @@ unfolding raiseEnd raiseEndSize
 end-size base u = by (eqb (u .handler) 0)
   where
     by : (t : Bool)
-        → length (cond t ((6 ∷ 1 ∷ []) ++ ifAny (u .number) (u .number ∷ [])) (labelJump base (u .variables) (u .handler))) ≡ cond t (2 + sizeIfAny (u .number) 1) (6 + u .variables)
-    by true = let a : length (ifAny (u .number) (u .number ∷ [])) ≡ sizeIfAny (u .number) 1 = any-size (u .number) (u .number ∷ []) refl in omega arith
+        → length (cond t ((6 ∷ 1 ∷ []) ++ ifAny (u .numberSlot) (u .numberSlot ∷ [])) (labelJump base (u .variables) (u .handler))) ≡ cond t (2 + sizeIfAny (u .numberSlot) 1) (6 + u .variables)
+    by true = let a : length (ifAny (u .numberSlot) (u .numberSlot ∷ [])) ≡ sizeIfAny (u .numberSlot) 1 = any-size (u .numberSlot) (u .numberSlot ∷ []) refl in omega arith
     by false = label-size base (u .variables) (u .handler)
 
 pub raise-size : (base : ℕ) (u : Under) → length (raiseBytes base u) ≡ raiseSize u

@@ -74,7 +74,7 @@ module _ {s : List ℕ} (K : FileInvariant s) (f : ℕ) (there : f < length (pro
       by false = refl
 
   pub under-as : (h : ℕ) {v p r b q : ℕ} → v ≡ variables F → p ≡ cond (eqb (versionOf s) 2) (v + 4) 0 → r ≡ slotByte (receiverSlot (receiverAt F h))
-      → b ≡ cond (eqb h 0) p r → q ≡ cond (eqb r 0) p r → record { variables = v; handler = h; bound = b; number = q } ≡ underOf F h
+      → b ≡ cond (eqb h 0) p r → q ≡ cond (eqb r 0) p r → record { variables = v; handler = h; bound = b; numberSlot = q } ≡ underOf F h
   unfolding underOf
   under-as h {v} {p} {r} {b} {q} ev ep er eb eq =
       let e : p ≡ slotByte (spareSlot F) = spare-is ev ep in

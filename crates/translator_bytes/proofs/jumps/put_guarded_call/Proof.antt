@@ -51,7 +51,7 @@ put-pair-requires c κs =
     let at-jump-size = at-put-guarded-head .before .before .before in
     let entry = entry-before-jump-size at-jump-size in (
       omega (arith, at-jump-size .jump-size .ensures, entry .pre .0 .3),
-      guarded-pair-room (entry .args .u .number) (entry .args .n) (entry .args .u .variables) (entry .pre .1) (head-size _ _ _ _) (at-put-guarded-head .put-guarded-head .ensures),
+      guarded-pair-room (entry .args .u .numberSlot) (entry .args .n) (entry .args .u .variables) (entry .pre .1) (head-size _ _ _ _) (at-put-guarded-head .put-guarded-head .ensures),
     )
 
 put-call-jump-requires : tie.Need-put-call-jump-requires
@@ -60,7 +60,7 @@ put-call-jump-requires c κs =
     let at-put-guarded-head = put-guarded-head-before-put-pair at-put-pair in
     let entry = entry-before-jump-size (at-put-guarded-head .before .before .before) in (
       (entry .pre .0 .4, entry .pre .0 .5),
-      guarded-jump-room (entry .args .u .number) (entry .args .n) (entry .args .u .variables) (entry .pre .1) (head-size _ _ _ _) refl (at-put-guarded-head .put-guarded-head .ensures) (at-put-pair .put-pair .ensures),
+      guarded-jump-room (entry .args .u .numberSlot) (entry .args .n) (entry .args .u .variables) (entry .pre .1) (head-size _ _ _ _) refl (at-put-guarded-head .put-guarded-head .ensures) (at-put-pair .put-pair .ensures),
     )
 
 put-pair-requires-2 : tie.Need-put-pair-requires-2
@@ -71,7 +71,7 @@ put-pair-requires-2 c κs =
     let at-jump-size2 = at-put-guarded-head .before .before in
     let entry = entry-before-jump-size (at-jump-size2 .before) in (
       omega (arith, at-jump-size2 .jump-size2 .ensures, entry .pre .0 .1),
-      guarded-length-room (entry .args .u .number) (entry .args .n) (entry .args .u .variables) (entry .pre .1) (head-size _ _ _ _) refl (at-put-guarded-head .put-guarded-head .ensures)
+      guarded-length-room (entry .args .u .numberSlot) (entry .args .n) (entry .args .u .variables) (entry .pre .1) (head-size _ _ _ _) refl (at-put-guarded-head .put-guarded-head .ensures)
           (at-put-pair .put-pair .ensures) (call-size _ _ _ _ _ (entry .pre .0 .5 .long)) (at-put-call-jump .put-call-jump .ensures),
     )
 
@@ -83,7 +83,7 @@ put-label-jump-requires c κs =
     let at-put-guarded-head = put-guarded-head-before-put-pair at-put-pair in
     let entry = entry-before-jump-size (at-put-guarded-head .before .before .before) in (
       (entry .pre .0 .0, entry .pre .0 .1),
-      guarded-label-room (entry .args .u .number) (entry .args .n) (entry .args .u .variables) (entry .pre .1) (head-size _ _ _ _) refl (at-put-guarded-head .put-guarded-head .ensures)
+      guarded-label-room (entry .args .u .numberSlot) (entry .args .n) (entry .args .u .variables) (entry .pre .1) (head-size _ _ _ _) refl (at-put-guarded-head .put-guarded-head .ensures)
           (at-put-pair .put-pair .ensures) (call-size _ _ _ _ _ (entry .pre .0 .5 .long)) (at-put-call-jump .put-call-jump .ensures) refl (at-put-pair2 .put-pair2 .ensures),
     )
 

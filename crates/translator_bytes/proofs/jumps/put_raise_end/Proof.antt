@@ -37,7 +37,7 @@ returns c =
     let at-if1 = at-put-two .before .before in
     let entry = at-if1 .before .before .before in
     wrote-as (uncaught-as (entry .args .base) (entry .args .u) (at-if1 .if1 .taken))
-    (wrote-after (6 ∷ 1 ∷ []) (ifAny (entry .args .u .number) (entry .args .u .number ∷ [])) (entry .pre .1) (omega (arith, uncaught-end (entry .args .u) (at-if1 .if1 .taken) refl)) (at-put-two .put-two .ensures) (c .before .before .put-slot-if-any .ensures))
+    (wrote-after (6 ∷ 1 ∷ []) (ifAny (entry .args .u .numberSlot) (entry .args .u .numberSlot ∷ [])) (entry .pre .1) (omega (arith, uncaught-end (entry .args .u) (at-if1 .if1 .taken) refl)) (at-put-two .put-two .ensures) (c .before .before .put-slot-if-any .ensures))
 
 same-length-2 : tie.Need-same-length-2
 same-length-2 c = search needs
