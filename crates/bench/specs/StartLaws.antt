@@ -29,7 +29,8 @@ use Rattle.bench_frames.specs.Machine.{functionAt, varsOf, framesOf, stateOf, F
 use Rattle.bench_frames.specs.StateLaws.{length-frames, frames-same}
 use Rattle.bench.specs.declared.machine.Ran.{Ran}
 use Rattle.bench.specs.declared.machine.Answer.{Answer}
-use Rattle.bench.specs.RunResult.{ZeroAtEnd, Reached, StoppedAt, RunResult}
+use Rattle.runs.specs.Machine.{StoppedFrom}
+use Rattle.bench.specs.RunResult.{held, machine, ZeroAtEnd, Reached, StoppedAt, RunResult}
 use Rattle.bench.specs.Published.{runOf, framesIn, StateGiven, CallFits, RunAnswered}
 
 drop-replicate : {A : Type 0} (n m : ℕ) (x : A) → drop n (replicate m x) ≡ replicate (m - n) x
@@ -99,6 +100,9 @@ module _ {s : List ℕ} (F : FileInvariant s) {f : FunctionNumber} {args : List 
 
     -- Where it stopped, with w frames in use.
     module _ {budget : ℕ} {y : Ran} {us words₁ : List ℤ} (R : RunResult s depth budget begins vs words y us words₁) where
+      stops : StoppedFrom (machine s depth) budget (ZeroAtEnd (y .regs .extras) (y .regs) us) (held begins vs words) (stateOf s begins vs words) (record { stop = stoppedAs (y .stopped); steps = y .steps }) (held (y .regs) us words₁)
+      stops = R .ran .stops (stateOf s begins vs words) (refl, start-held)
+
       ran : run (step (programOf s) depth) budget (stateOf s begins vs words) ≡ runOf s f args depth budget
       unfolding bench
       ran = ap (λ (S : State). run (step (programOf s) depth) budget S) start-is
@@ -110,10 +114,10 @@ module _ {s : List ℕ} (F : FileInvariant s) {f : FunctionNumber} {args : List 
           ∙ ap (λ (k : ℕ). k + total (step (programOf s) depth) (extra (programOf s)) budget (begun f (functionAt s f) args [])) ex
 
       tells-so : toldOf (runOf s f args depth budget) ≡ record { stop = stoppedAs (y .stopped); steps = y .steps }
-      tells-so = ap toldOf (sym ran) ∙ R .tells
+      tells-so = ap toldOf (sym ran) ∙ stops .tells
 
       reached : StoppedAt s depth (y .regs) us words₁ (runOf s f args depth budget .stop)
-      reached = subst (λ (b : Result State). StoppedAt s depth (y .regs) us words₁ (b .stop)) ran (R .state)
+      reached = subst (λ (b : Result State). StoppedAt s depth (y .regs) us words₁ (b .stop)) ran (stops .state)
 
       module _ {w : ℕ} (ew : w ≡ inUse (stoppedAs (y .stopped)) (y .regs .waiting)) where
         used : w ≡ inUse (runOf s f args depth budget .stop) (y .regs .waiting)
@@ -123,11 +127,11 @@ module _ {s : List ℕ} (F : FileInvariant s) {f : FunctionNumber} {args : List 
         fits = subst (λ (k : ℕ). k ≤ depth) (sym used) (in-use-fits (y .regs .waiting) (ZeroAtEnd (y .regs .extras) (y .regs) us) (runOf s f args depth budget .stop) (λ S h. h .1 .waiting) reached)
 
         pub clear-fits : (48 * w ≤ 48 * depth) × (48 * depth ≤ length words₁)
-        clear-fits = let l : w ≤ depth = fits in let k : 48 * depth ≤ length words = C .room in let m : length words₁ ≡ length words = R .sameLength in (omega arith, omega arith)
+        clear-fits = let l : w ≤ depth = fits in let k : 48 * depth ≤ length words = C .room in let m : length words₁ ≡ length words = R .ran .keeps .sameLength in (omega arith, omega arith)
 
         module _ {words₂ : List ℤ} (ec : words₂ ≡ lay (48 * w) (replicate (48 * depth - 48 * w) (pos 0)) words₁) where
           clean : Cleared depth w words words₁ words₂
-          clean = cleared fits (C .room) (R .kept) (R .sameLength) ec
+          clean = cleared fits (C .room) (R .ran .keeps .past) (R .ran .keeps .sameLength) ec
 
           abbrev answer : Answer
           answer = record { verdict = Accepted; stopped = y .stopped; steps = y .steps; extras = y .regs .extras; regs = y .regs; vars = us }
@@ -156,7 +160,7 @@ module _ {s : List ℕ} (F : FileInvariant s) {f : FunctionNumber} {args : List 
               record {
                 said =
                     ap (λ (k : Result (Unit {0})). tells (record { result = k; extras = y .regs .extras })) (sym tells-so)
-                    ∙ ap (λ (n : ℕ). tells (record { result = toldOf (runOf s f args depth budget); extras = n })) (sym (R .extras) ∙ sum);
+                    ∙ ap (λ (n : ℕ). tells (record { result = toldOf (runOf s f args depth budget); extras = n })) (sym (stops .counted) ∙ sum);
                 held =
                     words-after framesIn (λ fs. framesOf s words₂ (length fs) ≡ fs) (ZeroAtEnd (y .regs .extras) (y .regs) us) (Reached s depth (y .regs) us words₁) (StateGiven s answer words₂)
                     clean refl still (runOf s f args depth budget .stop) used reached;

@@ -1,31 +1,30 @@
--- The loop of the bench: what is left to run, as the code has it.
-use Prim.Native.Nat.{ℕ, suc, _+_, _*_, _-_, _≤_, _<_}
+-- A step of the bench, as the laws of a machine's loop have it; and the bound on its extras.
+use Prim.Native.Nat.{ℕ, _+_, _-_, _*_, _≤_, _<_}
 use native.Mathlib.Omega.{arith}
-use native.Mathlib.Nat.{add-assoc, add-zero}
-use mathlib.Core.Path.{_≡_, refl, sym, ap, _∙_, subst}
+use mathlib.Core.Path.{_≡_, refl, sym, ap, ap₂, subst, _∙_}
 use mathlib.Core.Bool.{Bool, true, false}
 use mathlib.Core.List.{List}
-use lib.IntN.{ℤ, pos}
 use lib.Dec.{ltb}
-use lib.ListN.{length, drop, replicate, List·getD-eq-default}
+use lib.IntN.{ℤ, pos}
+use lib.ListN.{length, replicate, List·getD-eq-default}
 use borrow.Author.Tests.{ltb-true, ltb-false}
 use Rattle.semantics.specs.Program.{Function, noFunction}
-use Rattle.semantics.specs.Run.{Outcome, next, end, tooDeep, ended, spent, deep, Result, after, taken, added, run, total}
 use Rattle.semantics.specs.Bench.{State, step}
 use Rattle.semantics.specs.Extras.{extra}
-use Rattle.semantics.specs.RunLaws.{after-zero, after-after}
 use Rattle.semantics.specs.StopLaws.{extra-bound}
 use Rattle.runs.specs.declared.End.{End}
 use Rattle.runs.specs.declared.Stopped.the-variants as Stopped
 use Rattle.runs.specs.Stopped.{endAs}
-use Rattle.runs.specs.Tells.{toldOf}
+use Rattle.runs.specs.Machine.{Came, onward, over, deepAt, Answers, Steps, Turn}
+use Rattle.runs.specs.MachineLaws.{turn-start, on-next, on-ended, on-deep, on-spent}
+use Rattle.procedure_layout.specs.Layout.{maxVariables}
 use Rattle.procedure_file.specs.Check.{programOf}
 use Rattle.procedure_file.specs.FileInvariant.{FileInvariant}
 use Rattle.bench_frames.specs.declared.registers.Regs.{Regs}
 use Rattle.bench_frames.specs.declared.registers.Step.{Step}
 use Rattle.bench_frames.specs.declared.registers.Step.the-variants.{Next, Ended, Deep}
 use Rattle.bench_frames.specs.Machine.{functionAt, stateOf, Invariant, StepResult}
-use Rattle.bench.specs.RunResult.{zeroRegs, Reached, StoppedAt, RunResult}
+use Rattle.bench.specs.RunResult.{Held, held, Reached, machine, zeroRegs, RunResult}
 
 -- No function has more than 24 locals; one that is not there has none.
 locals-bound : {s : List ℕ} → FileInvariant s → (g : ℕ) → functionAt s g .locals ≤ 24
@@ -39,130 +38,85 @@ locals-bound {s} F g = by (ltb g (length (programOf s))) refl
 extra-small : {s : List ℕ} → FileInvariant s → (S : State) → extra (programOf s) S ≤ 25
 extra-small {s} F S = extra-bound (programOf s) 24 (omega arith) (locals-bound F) S
 
--- After n steps of a run with budget b that began at r₀, vs₀, words₀.
-pub record Turn (s : List ℕ) (limit b : ℕ) (r₀ : Regs) (vs₀ words₀ : List ℤ) (n : ℕ) (r : Regs) (vs words : List ℤ) : Type 0 where
-  pub held : Invariant s limit r vs words
-  pub stepBound : n ≤ b
-  pub left : run (step (programOf s) limit) b (stateOf s r₀ vs₀ words₀) ≡ after n (run (step (programOf s) limit) (b - n) (stateOf s r vs words))
-  pub sum : r₀ .extras + total (step (programOf s) limit) (extra (programOf s)) b (stateOf s r₀ vs₀ words₀) ≡ r .extras + total (step (programOf s) limit) (extra (programOf s)) (b - n) (stateOf s r vs words)
-  pub small : r .extras ≤ r₀ .extras + 25 * n
-  pub kept : drop (48 * limit) words ≡ drop (48 * limit) words₀
-  pub sameLength : length words ≡ length words₀
+-- What a step's answer says; at an end registers, but the extras, and variables are made 0.
+abbrev pub came : Regs → Step → List ℤ → List ℤ → Came Held
+came r (Next q) vs words = onward (held q vs words)
+came r (Ended e k) vs words = over (endAs e) (held (zeroRegs k) (replicate maxVariables (pos 0)) words)
+came r Deep vs words = deepAt (held r vs words)
 
-pub turn-start : {s : List ℕ} {limit b : ℕ} {r : Regs} {vs words : List ℤ} → Invariant s limit r vs words → Turn s limit b r vs words 0 r vs words
-turn-start {s} {limit} {b} {r} {vs} {words} H =
-    let q : b - 0 ≡ b = omega arith in
-    record {
-      held = H;
-      stepBound = omega arith;
-      left = sym (ap (λ (k : ℕ). after 0 (run (step (programOf s) limit) k (stateOf s r vs words))) q ∙ after-zero (run (step (programOf s) limit) b (stateOf s r vs words)));
-      sum = ap (λ (k : ℕ). r .extras + total (step (programOf s) limit) (extra (programOf s)) k (stateOf s r vs words)) (sym q);
-      small = omega arith;
-      kept = refl;
-      sameLength = refl;
-    }
+module _ {s : List ℕ} {limit : ℕ} {r : Regs} {vs words : List ℤ} where
+  from : {S : State} → Reached s limit r vs words S → step (programOf s) limit S ≡ step (programOf s) limit (stateOf s r vs words)
+  from h = ap (step (programOf s) limit) (sym (h .0))
 
-module _ {s : List ℕ} (F : FileInvariant s) {limit b : ℕ} {r₀ : Regs} {vs₀ words₀ : List ℤ} {n : ℕ} {r : Regs} {vs words : List ℤ} (T : Turn s limit b r₀ vs₀ words₀ n r vs words) where
-  abbrev now : State
-  now = stateOf s r vs words
+  added-so : {S : State} → Reached s limit r vs words S → r .extras + extra (programOf s) (stateOf s r vs words) ≡ r .extras + extra (programOf s) S
+  added-so h = ap (λ (T : State). r .extras + extra (programOf s) T) (h .0)
 
-  pub extras-small : b < 4294967296 → r₀ .extras < 4294967296 → n < b → r .extras < 9223372036854775808
-  extras-small h k l = let m : r .extras ≤ r₀ .extras + 25 * n = T .small in omega arith
-
-  -- One step of what is left, whose outcome is known.
-  module _ (l : n < b) where
-    one : b - n ≡ suc (b - (n + 1))
-    one = omega arith
-
-    run-is : (o : Outcome State) → step (programOf s) limit now ≡ o → run (step (programOf s) limit) (b - n) now ≡ taken o now (λ (U : State). run (step (programOf s) limit) (b - (n + 1)) U)
-    run-is o e = ap (λ (k : ℕ). run (step (programOf s) limit) k now) one ∙ ap (λ (x : Outcome State). taken x now (λ (U : State). run (step (programOf s) limit) (b - (n + 1)) U)) e
-
-    total-is : (o : Outcome State) → step (programOf s) limit now ≡ o → total (step (programOf s) limit) (extra (programOf s)) (b - n) now ≡ added (extra (programOf s) now) o (λ (U : State). total (step (programOf s) limit) (extra (programOf s)) (b - (n + 1)) U)
-    total-is o e = ap (λ (k : ℕ). total (step (programOf s) limit) (extra (programOf s)) k now) one ∙ ap (λ (x : Outcome State). added (extra (programOf s) now) x (λ (U : State). total (step (programOf s) limit) (extra (programOf s)) (b - (n + 1)) U)) e
-
-    pub turn-next : {q : Regs} {vs′ words′ : List ℤ} → StepResult s limit r vs words (Next q) vs′ words′ → Turn s limit b r₀ vs₀ words₀ (n + 1) q vs′ words′
-    turn-next {q} {vs′} {words′} D =
-        let e : extra (programOf s) now ≤ 25 = extra-small F now in
-        let m : r .extras ≤ r₀ .extras + 25 * n = T .small in
-        let x : q .extras ≡ r .extras + extra (programOf s) now = D .held .1 in
-        record {
-          held = D .held .0;
-          stepBound = omega arith;
-          left = T .left ∙ (ap (λ (y : Result State). after n y) (run-is (next (stateOf s q vs′ words′)) (sym (D .outcome))) ∙ after-after n 1 (run (step (programOf s) limit) (b - (n + 1)) (stateOf s q vs′ words′)));
-          sum =
-              T .sum
-              ∙ (ap (λ (k : ℕ). r .extras + k) (total-is (next (stateOf s q vs′ words′)) (sym (D .outcome)))
-              ∙ (sym (add-assoc (r .extras) (extra (programOf s) now) (total (step (programOf s) limit) (extra (programOf s)) (b - (n + 1)) (stateOf s q vs′ words′)))
-              ∙ ap (λ (k : ℕ). k + total (step (programOf s) limit) (extra (programOf s)) (b - (n + 1)) (stateOf s q vs′ words′)) (sym x)));
-          small = omega arith;
-          kept = D .kept ∙ T .kept;
-          sameLength = D .sameLength ∙ T .sameLength;
-        }
-
-    pub turn-ended : {e : End} {k : ℕ} {vs′ words′ : List ℤ} → StepResult s limit r vs words (Ended e k) vs′ words′
-        → RunResult s limit b r₀ vs₀ words₀ (record { stopped = Stopped.Ended e; steps = n + 1; regs = zeroRegs k }) (replicate 32 (pos 0)) words′
-    turn-ended {e} {k} {vs′} {words′} D =
-        let q : run (step (programOf s) limit) b (stateOf s r₀ vs₀ words₀) ≡ record { stop = ended (endAs e); steps = n + 1 } =
-        T .left ∙ ap (λ (y : Result State). after n y) (run-is (end (endAs e)) (sym (D .outcome))) in
-        record {
-          tells = ap toldOf q;
-          state = subst (λ (y : Result State). StoppedAt s limit (zeroRegs k) (replicate 32 (pos 0)) words′ (y .stop)) (sym q) (refl, refl);
-          extras = T .sum ∙ (ap (λ (x : ℕ). r .extras + x) (total-is (end (endAs e)) (sym (D .outcome))) ∙ sym (D .held));
-          kept = D .kept ∙ T .kept;
-          sameLength = D .sameLength ∙ T .sameLength;
-        }
-
-    pub turn-deep : {vs′ words′ : List ℤ} → StepResult s limit r vs words Deep vs′ words′ → RunResult s limit b r₀ vs₀ words₀ (record { stopped = Stopped.Deep; steps = n; regs = r }) vs′ words′
-    turn-deep {vs′} {words′} D =
-        let q : run (step (programOf s) limit) b (stateOf s r₀ vs₀ words₀) ≡ record { stop = deep now; steps = n + 0 } = T .left ∙ ap (λ (y : Result State). after n y) (run-is tooDeep (sym (D .outcome))) in
-        let ev : vs′ ≡ vs = D .held .0 in
-        let ew : words′ ≡ words = D .held .1 in
-        let h : Reached s limit r vs′ words′ now = subst (λ (ws : List ℤ). Reached s limit r vs′ ws now) (sym ew) (subst (λ (us : List ℤ). Reached s limit r us words now) (sym ev) (refl, T .held)) in
-        record {
-          tells = ap toldOf q ∙ ap (λ (k : ℕ). record { stop = deep tt; steps = k }) (add-zero n);
-          state = subst (λ (y : Result State). StoppedAt s limit r vs′ words′ (y .stop)) (sym q) h;
-          extras = T .sum ∙ (ap (λ (k : ℕ). r .extras + k) (total-is tooDeep (sym (D .outcome))) ∙ add-zero (r .extras));
-          kept = D .kept ∙ T .kept;
-          sameLength = D .sameLength ∙ T .sameLength;
-        }
-
-  -- The same, by the answer of a step.
-  module _ (l : n < b) {x : Step} {vs′ words′ : List ℤ} (D : StepResult s limit r vs words x vs′ words′) where
-    by : {y : Step} → x ≡ y → StepResult s limit r vs words y vs′ words′
-    by e = subst (λ (z : Step). StepResult s limit r vs words z vs′ words′) e D
-
-    pub on-next : {q : Regs} → x ≡ Next q → Turn s limit b r₀ vs₀ words₀ (n + 1) q vs′ words′
-    on-next e = turn-next l (by e)
-
-    pub on-ended : {e : End} {k : ℕ} {q : Regs} → x ≡ Ended e k → q ≡ zeroRegs k → RunResult s limit b r₀ vs₀ words₀ (record { stopped = Stopped.Ended e; steps = n + 1; regs = q }) (replicate 32 (pos 0)) words′
-    on-ended {e} h z = subst (λ (q : Regs). RunResult s limit b r₀ vs₀ words₀ (record { stopped = Stopped.Ended e; steps = n + 1; regs = q }) (replicate 32 (pos 0)) words′) (sym z) (turn-ended l (by h))
-
-    pub on-deep : x ≡ Deep → RunResult s limit b r₀ vs₀ words₀ (record { stopped = Stopped.Deep; steps = n; regs = r }) vs′ words′
-    on-deep e = turn-deep l (by e)
-
-  pub turn-spent : b ≤ n → RunResult s limit b r₀ vs₀ words₀ (record { stopped = Stopped.Spent; steps = n; regs = r }) vs words
-  turn-spent l =
-      let f : n ≤ b = T .stepBound in
-      let z : b - n ≡ 0 = omega arith in
-      let q : run (step (programOf s) limit) b (stateOf s r₀ vs₀ words₀) ≡ record { stop = spent now; steps = n + 0 } = T .left ∙ ap (λ (k : ℕ). after n (run (step (programOf s) limit) k now)) z in
+  steps : (x : Step) {vs′ words′ : List ℤ} → StepResult s limit r vs words x vs′ words′ → Steps (machine s limit) (held r vs words) (came r x vs′ words′)
+  steps (Next q) {vs′} {words′} D =
       record {
-        tells = ap toldOf q ∙ ap (λ (k : ℕ). record { stop = spent tt; steps = k }) (add-zero n);
-        state = subst (λ (y : Result State). StoppedAt s limit r vs words (y .stop)) (sym q) (refl, T .held);
-        extras = T .sum ∙ (ap (λ (k : ℕ). r .extras + total (step (programOf s) limit) (extra (programOf s)) k now) z ∙ add-zero (r .extras));
-        kept = T .kept;
-        sameLength = T .sameLength;
+        answers = λ S h. (stateOf s q vs′ words′, from h ∙ sym (D .outcome), (refl, D .held .0), D .held .1 ∙ added-so h);
+        keeps = record { past = D .kept; sameLength = D .sameLength };
+      }
+  steps (Ended e k) D = record { answers = λ S h. (from h ∙ sym (D .outcome), D .held ∙ added-so h); keeps = record { past = D .kept; sameLength = D .sameLength } }
+  steps Deep D =
+      record {
+        answers = λ S h. (from h ∙ sym (D .outcome), ap₂ (λ (us ws : List ℤ). held r us ws) (D .held .0) (D .held .1));
+        keeps = record { past = D .kept; sameLength = D .sameLength };
       }
 
--- The same, with the steps left counted down.
-pub down-bound : {b left : ℕ} → left ≤ b → 0 < left → b - left < b
-down-bound h k = omega arith
+  stepped : {x y : Step} {vs′ words′ : List ℤ} → StepResult s limit r vs words x vs′ words′ → x ≡ y → Steps (machine s limit) (held r vs words) (came r y vs′ words′)
+  stepped {x} {vs′ = vs′} {words′ = words′} D e = subst (λ (z : Step). Steps (machine s limit) (held r vs words) (came r z vs′ words′)) e (steps x D)
 
-module _ {s : List ℕ} {limit b : ℕ} {r₀ : Regs} {vs₀ words₀ : List ℤ} {r : Regs} {vs words : List ℤ} where
-  pub down-start : Turn s limit b r₀ vs₀ words₀ 0 r vs words → Turn s limit b r₀ vs₀ words₀ (b - b) r vs words
-  down-start T = let q : 0 ≡ b - b = omega arith in subst (λ (n : ℕ). Turn s limit b r₀ vs₀ words₀ n r vs words) q T
+-- The loop with `left` steps of its budget b left, counted down.
+pub record Loop (s : List ℕ) (limit b : ℕ) (r₀ : Regs) (vs₀ words₀ : List ℤ) (left : ℕ) (r : Regs) (vs words : List ℤ) : Type 0 where
+  pub leftBound : left ≤ b
+  pub turn : Turn (machine s limit) b (held r₀ vs₀ words₀) (b - left) (held r vs words)
+  pub small : r .extras ≤ r₀ .extras + 25 * (b - left)
 
-  pub down-next : {left : ℕ} → left ≤ b → 0 < left → Turn s limit b r₀ vs₀ words₀ (b - left + 1) r vs words → Turn s limit b r₀ vs₀ words₀ (b - (left - 1)) r vs words
-  down-next {left} h k T = let q : b - left + 1 ≡ b - (left - 1) = omega arith in subst (λ (n : ℕ). Turn s limit b r₀ vs₀ words₀ n r vs words) q T
+pub loop-start : {s : List ℕ} {limit b : ℕ} {r : Regs} {vs words : List ℤ} → Invariant s limit r vs words → Loop s limit b r vs words b r vs words
+loop-start {s} {limit} {b} {r} {vs} {words} H =
+    let q : 0 ≡ b - b = omega arith in
+    record {
+      leftBound = omega arith;
+      turn = subst (λ (n : ℕ). Turn (machine s limit) b (held r vs words) n (held r vs words)) q (turn-start (machine s limit) b (held r vs words) (stateOf s r vs words, (refl, H)));
+      small = omega arith;
+    }
 
-  pub down-spent : {left : ℕ} → FileInvariant s → left ≤ 0 → Turn s limit b r₀ vs₀ words₀ (b - left) r vs words → RunResult s limit b r₀ vs₀ words₀ (record { stopped = Stopped.Spent; steps = b; regs = r }) vs words
-  down-spent {left} F h T = let q : b - left ≡ b = omega arith in turn-spent F (subst (λ (n : ℕ). Turn s limit b r₀ vs₀ words₀ n r vs words) q T) (omega arith)
+module _ {s : List ℕ} {limit b : ℕ} {r₀ : Regs} {vs₀ words₀ : List ℤ} {left : ℕ} {r : Regs} {vs words : List ℤ} (L : Loop s limit b r₀ vs₀ words₀ left r vs words) where
+  pub loop-held : Invariant s limit r vs words
+  loop-held = L .turn .some .1 .1
+
+  pub extras-small : b < 4294967296 → r₀ .extras < 4294967296 → r .extras < 9223372036854775808
+  extras-small h k = let m : r .extras ≤ r₀ .extras + 25 * (b - left) = L .small in omega arith
+
+  module _ (l : 0 < left) where
+    before : b - left < b
+    before = let f : left ≤ b = L .leftBound in omega arith
+
+    module _ {x : Step} {vs′ words′ : List ℤ} (D : StepResult s limit r vs words x vs′ words′) where
+      pub loop-next : FileInvariant s → {q : Regs} → x ≡ Next q → Loop s limit b r₀ vs₀ words₀ (left - 1) q vs′ words′
+      loop-next F {q} e =
+          let f : left ≤ b = L .leftBound in
+          let m : r .extras ≤ r₀ .extras + 25 * (b - left) = L .small in
+          let k : b - left + 1 ≡ b - (left - 1) = omega arith in
+          let w : extra (programOf s) (stateOf s r vs words) ≤ 25 = extra-small F (stateOf s r vs words) in
+          let y : q .extras ≡ r .extras + extra (programOf s) (stateOf s r vs words) = subst (λ (z : Step). StepResult s limit r vs words z vs′ words′) e D .held .1 in
+          record {
+            leftBound = omega arith;
+            turn = subst (λ (n : ℕ). Turn (machine s limit) b (held r₀ vs₀ words₀) n (held q vs′ words′)) k (on-next (machine s limit) (L .turn) before (stepped D e));
+            small = omega arith;
+          }
+
+      pub loop-ended : {e : End} {k : ℕ} {q : Regs} → x ≡ Ended e k → q ≡ zeroRegs k
+          → RunResult s limit b r₀ vs₀ words₀ (record { stopped = Stopped.Ended e; steps = b - left + 1; regs = q }) (replicate 32 (pos 0)) words′
+      loop-ended {e} {k} h z =
+          subst (λ (q : Regs). RunResult s limit b r₀ vs₀ words₀ (record { stopped = Stopped.Ended e; steps = b - left + 1; regs = q }) (replicate 32 (pos 0)) words′) (sym z)
+          (record { ran = on-ended (machine s limit) (L .turn) before (refl, refl) (stepped D h) })
+
+      pub loop-deep : x ≡ Deep → RunResult s limit b r₀ vs₀ words₀ (record { stopped = Stopped.Deep; steps = b - left; regs = r }) vs′ words′
+      loop-deep h = record { ran = on-deep (machine s limit) (L .turn) before (stepped D h) }
+
+  pub loop-spent : left ≤ 0 → RunResult s limit b r₀ vs₀ words₀ (record { stopped = Stopped.Spent; steps = b; regs = r }) vs words
+  loop-spent l =
+      let q : b - left ≡ b = omega arith in
+      record { ran = on-spent (machine s limit) (subst (λ (n : ℕ). Turn (machine s limit) b (held r₀ vs₀ words₀) n (held r vs words)) q (L .turn)) (omega arith) }

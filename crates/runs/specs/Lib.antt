@@ -3,7 +3,9 @@
 pub mod Stopped
 pub mod Tells
 pub mod Words
+pub mod Machine
 -- Laws.
 pub mod TellsLaws
 pub mod OutputLaws
 pub mod WordsLaws
+pub mod MachineLaws
