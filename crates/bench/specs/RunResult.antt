@@ -10,12 +10,12 @@ use Rattle.semantics.specs.Extras.{extra}
 use Rattle.memory.specs.Frame.{frameSize}
 use Rattle.runs.specs.Stopped.{stoppedAs}
 use Rattle.runs.specs.Words.{GivesState}
-use Rattle.runs.specs.Machine.{Machine, Ran}
+use Rattle.runs.specs.Machine.{Machine, RunStops}
 use Rattle.procedure_layout.specs.Layout.{maxVariables}
 use Rattle.procedure_file.specs.Check.{programOf}
 use Rattle.bench_frames.specs.declared.registers.Regs.{Regs}
 use Rattle.bench_frames.specs.Machine.{stateOf, Invariant}
-use Rattle.bench.specs.declared.machine.Ran as Code
+use Rattle.bench.specs.declared.machine.Ran.{Ran}
 
 -- What the machine holds.
 pub record Held : Type 0 where
@@ -55,5 +55,5 @@ abbrev pub StoppedAt : List ℕ → ℕ → Regs → List ℤ → List ℤ → S
 StoppedAt s limit r vs words stop = GivesState (ZeroAtEnd (r .extras) r vs) (Reached s limit r vs words) stop
 
 -- Going on from a state with a budget: the rules' run from there, as the machine says.
-pub record RunResult (s : List ℕ) (limit budget : ℕ) (r : Regs) (vs words : List ℤ) (x : Code.Ran) (vs′ words′ : List ℤ) : Type 0 where
-  pub ran : Ran (machine s limit) budget (ZeroAtEnd (x .regs .extras) (x .regs) vs′) (held r vs words) (record { stop = stoppedAs (x .stopped); steps = x .steps }) (held (x .regs) vs′ words′)
+pub record RunResult (s : List ℕ) (limit budget : ℕ) (r : Regs) (vs words : List ℤ) (x : Ran) (vs′ words′ : List ℤ) : Type 0 where
+  pub ran : RunStops (machine s limit) budget (ZeroAtEnd (x .regs .extras) (x .regs) vs′) (held r vs words) (record { stop = stoppedAs (x .stopped); steps = x .steps }) (held (x .regs) vs′ words′)

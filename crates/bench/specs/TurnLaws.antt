@@ -15,7 +15,7 @@ use Rattle.semantics.specs.StopLaws.{extra-bound}
 use Rattle.runs.specs.declared.End.{End}
 use Rattle.runs.specs.declared.Stopped.the-variants as Stopped
 use Rattle.runs.specs.Stopped.{endAs}
-use Rattle.runs.specs.Machine.{Came, onward, over, deepAt, Answers, Steps, Turn}
+use Rattle.runs.specs.Machine.{StepAnswer, movedTo, endedWith, deepIn, Answers, Steps, Turn}
 use Rattle.runs.specs.MachineLaws.{turn-start, on-next, on-ended, on-deep, on-spent}
 use Rattle.procedure_layout.specs.Layout.{maxVariables}
 use Rattle.procedure_file.specs.Check.{programOf}
@@ -39,10 +39,10 @@ extra-small : {s : List ℕ} → FileInvariant s → (S : State) → extra (prog
 extra-small {s} F S = extra-bound (programOf s) 24 (omega arith) (locals-bound F) S
 
 -- What a step's answer says; at an end registers, but the extras, and variables are made 0.
-abbrev pub came : Regs → Step → List ℤ → List ℤ → Came Held
-came r (Next q) vs words = onward (held q vs words)
-came r (Ended e k) vs words = over (endAs e) (held (zeroRegs k) (replicate maxVariables (pos 0)) words)
-came r Deep vs words = deepAt (held r vs words)
+abbrev pub answerOf : Regs → Step → List ℤ → List ℤ → StepAnswer Held
+answerOf r (Next q) vs words = movedTo (held q vs words)
+answerOf r (Ended e k) vs words = endedWith (endAs e) (held (zeroRegs k) (replicate maxVariables (pos 0)) words)
+answerOf r Deep vs words = deepIn (held r vs words)
 
 module _ {s : List ℕ} {limit : ℕ} {r : Regs} {vs words : List ℤ} where
   from : {S : State} → Reached s limit r vs words S → step (programOf s) limit S ≡ step (programOf s) limit (stateOf s r vs words)
@@ -51,7 +51,7 @@ module _ {s : List ℕ} {limit : ℕ} {r : Regs} {vs words : List ℤ} where
   added-so : {S : State} → Reached s limit r vs words S → r .extras + extra (programOf s) (stateOf s r vs words) ≡ r .extras + extra (programOf s) S
   added-so h = ap (λ (T : State). r .extras + extra (programOf s) T) (h .0)
 
-  steps : (x : Step) {vs′ words′ : List ℤ} → StepResult s limit r vs words x vs′ words′ → Steps (machine s limit) (held r vs words) (came r x vs′ words′)
+  steps : (x : Step) {vs′ words′ : List ℤ} → StepResult s limit r vs words x vs′ words′ → Steps (machine s limit) (held r vs words) (answerOf r x vs′ words′)
   steps (Next q) {vs′} {words′} D =
       record {
         answers = λ S h. (stateOf s q vs′ words′, from h ∙ sym (D .outcome), (refl, D .held .0), D .held .1 ∙ added-so h);
@@ -64,8 +64,8 @@ module _ {s : List ℕ} {limit : ℕ} {r : Regs} {vs words : List ℤ} where
         keeps = record { past = D .kept; sameLength = D .sameLength };
       }
 
-  stepped : {x y : Step} {vs′ words′ : List ℤ} → StepResult s limit r vs words x vs′ words′ → x ≡ y → Steps (machine s limit) (held r vs words) (came r y vs′ words′)
-  stepped {x} {vs′ = vs′} {words′ = words′} D e = subst (λ (z : Step). Steps (machine s limit) (held r vs words) (came r z vs′ words′)) e (steps x D)
+  stepped : {x y : Step} {vs′ words′ : List ℤ} → StepResult s limit r vs words x vs′ words′ → x ≡ y → Steps (machine s limit) (held r vs words) (answerOf r y vs′ words′)
+  stepped {x} {vs′ = vs′} {words′ = words′} D e = subst (λ (z : Step). Steps (machine s limit) (held r vs words) (answerOf r z vs′ words′)) e (steps x D)
 
 -- The loop with `left` steps of its budget b left, counted down.
 pub record Loop (s : List ℕ) (limit b : ℕ) (r₀ : Regs) (vs₀ words₀ : List ℤ) (left : ℕ) (r : Regs) (vs words : List ℤ) : Type 0 where
