@@ -18,8 +18,9 @@ use Rattle.parsing.specs.VerdictLaws.{or-accepted}
 use Rattle.memory.specs.Call.{startVerdict, argumentsVerdict, wordsVerdict}
 use Rattle.memory.specs.CallLaws.{fitting-start, fitting-arguments, fitting-words}
 use Rattle.runs.specs.Stopped.{stoppedAs}
-use Rattle.runs.specs.Tells.{tells, tellsBy, toldOf, ChangedBy, RefusedBy}
+use Rattle.runs.specs.Tells.{tells, toldOf}
 use Rattle.runs.specs.TellsLaws.{answered}
+use Rattle.runs.specs.CallLaws.{Promised, promised-refused, promised-ran}
 use Rattle.runs.specs.OutputLaws.{lay-front}
 use Rattle.procedure_file.specs.Check.{checkOf, programOf}
 use Rattle.procedure_file.specs.Loaded.{Loaded}
@@ -34,7 +35,7 @@ use Rattle.controller.specs.Published as Controller
 use Rattle.controller_records.specs.Machine.{SlotsKept}
 use Rattle.agreement.specs.declared.Sides.{Sides}
 use Rattle.agreement.specs.Statement.{entryOf, controllerBudget, Claim}
-use Rattle.agreement.specs.Sides.{callVerdict, sidesVerdict, Told, sidesTold, controllerRun, runsTell, sidesTell, Memory, Ran, SidesMemory, refusedSides, CallFits, MachinesRan}
+use Rattle.agreement.specs.Sides.{callVerdict, sidesVerdict, Told, saidBy, controllerRun, runsTell, sidesTell, Memory, Ran, SidesMemory, refusedSides, CallFits, MachinesRan}
 use Rattle.agreement.specs.Theorem.{few-steps, translation-slots, ran-alike, stops-match, files-agree}
 
 one-at-most : {S : Type 0} (o : Stop S) → oneMoreIfDeep o ≤ 1
@@ -115,25 +116,21 @@ module _ {s : List ℕ} {f : FunctionNumber} {args : List ℤ} {depth : ℕ} {fr
 
 -- ── The call on a loaded file ───────────────────────────────────────────────────────────────────
 
--- The three promises of the call.
-abbrev pub Answered : List ℕ → FunctionNumber → List ℤ → ℕ → ℕ → Sides → Memory → Memory → Type 0
-Answered s f args depth budget a m m′ =
-    (sidesTold a ≡ sidesTell s f args depth budget (length (m .frames)) (length (m .room)) (length (m .records))) × (SidesMemory s f args depth budget a m m′
-    × RefusedBy refusedSides (sidesVerdict s f (length args) depth (length (m .frames)) (length (m .room)) (length (m .records))) a)
-
 module _ (s : List ℕ) (f : FunctionNumber) (args : List ℤ) (depth budget : ℕ) (m : Memory) where
   abbrev verdict : Verdict
   verdict = sidesVerdict s f (length args) depth (length (m .frames)) (length (m .room)) (length (m .records))
 
-  -- A refused call.
-  pub refused-so : {r : Refusal} (a : Sides) → a ≡ refusedSides r → verdict ≡ refused (r .number) (r .place) → Answered s f args depth budget a m m
-  unfolding sidesTell
-  refused-so {r} a q e = (
-    ap sidesTold q ∙ ap (λ (v : Verdict). tellsBy v (runsTell s f args depth budget)) (sym e),
-    (subst (λ (v : Verdict). ChangedBy v (Ran s f args depth budget a m m) m m) (sym e) refl, subst (λ (v : Verdict). RefusedBy refusedSides v a) (sym e) q),
-  )
+  -- The three promises of the call.
+  abbrev pub Answered : Sides → Memory → Type 0
+  Answered a m′ =
+      Promised (λ b. verdictOf (b .verdict)) saidBy refusedSides (sidesTell s f args depth budget (length (m .frames)) (length (m .room)) (length (m .records))) verdict (Ran s f args depth budget a m m′) a m m′
 
-  pub file-refused : {v : Checked} {r : Refusal} (a : Sides) → verdictOf v ≡ checkOf s → v ≡ Refused r → a ≡ refusedSides r → Answered s f args depth budget a m m
+  -- A refused call.
+  pub refused-so : {r : Refusal} (a : Sides) → a ≡ refusedSides r → verdict ≡ refused (r .number) (r .place) → Answered a m
+  unfolding sidesTell
+  refused-so {r} a q e = promised-refused (λ b. verdictOf (b .verdict)) saidBy refusedSides (runsTell s f args depth budget) refl (Ran s f args depth budget a m m) a m r refl e q
+
+  pub file-refused : {v : Checked} {r : Refusal} (a : Sides) → verdictOf v ≡ checkOf s → v ≡ Refused r → a ≡ refusedSides r → Answered a m
   unfolding sidesVerdict
   file-refused a e q k = refused-so a k (rw (sym e ∙ ap verdictOf q))
 
@@ -191,7 +188,7 @@ module _ (s : List ℕ) (f : FunctionNumber) (args : List ℤ) (depth budget : �
   unfolding sidesVerdict
   judged = rw (J .isAccepted) (J .verdict)
 
-  pub call-refused : {r : Refusal} (a : Sides) → v ≡ Refused r → a ≡ refusedSides r → Answered s f args depth budget a m m
+  pub call-refused : {r : Refusal} (a : Sides) → v ≡ Refused r → a ≡ refusedSides r → Answered s f args depth budget m a m
   call-refused a q k = refused-so s f args depth budget m a k (sym judged ∙ ap verdictOf q)
 
   module _ (q : v ≡ Accepted) where
@@ -231,14 +228,9 @@ module _ (s : List ℕ) (f : FunctionNumber) (args : List ℤ) (depth budget : �
           ∙ (ap (λ (d : List ℕ). take (length (translationOf s)) d) room-is ∙ take-append-seam (translationOf s) (drop (length (translationOf s)) (m .room)))
 
       pub call-ran : {frames′ records′ : List ℤ} (a : Sides) → MachinesRan s f args depth budget a (m .frames) frames′ (m .records) records′
-          → Answered s f args depth budget a m (record { frames = frames′; room = room′; records = records′ })
+          → Answered s f args depth budget m a (record { frames = frames′; room = room′; records = records′ })
       unfolding sidesTell
       call-ran {frames′} {records′} a M =
           let m′ : Memory = record { frames = frames′; room = room′; records = records′ } in
-          let ok : accepted ≡ sidesVerdict s f (length args) depth (length (m .frames)) (length (m .room)) (length (m .records)) = ap verdictOf (sym q) ∙ judged in (
-            M .said ∙ ap (λ (u : Verdict). tellsBy u (runsTell s f args depth budget)) ok,
-            (
-              subst (λ (u : Verdict). ChangedBy u (Ran s f args depth budget a m m′) m m′) ok (record { translation = room-is; together = M .together }),
-              subst (λ (u : Verdict). RefusedBy refusedSides u a) ok tt,
-            ),
-          )
+          promised-ran (λ b. verdictOf (b .verdict)) saidBy refusedSides (runsTell s f args depth budget) refl (Ran s f args depth budget a m m′) a m m′ (sym judged ∙ ap verdictOf q) (M .said)
+          (record { translation = room-is; together = M .together })

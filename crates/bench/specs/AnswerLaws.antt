@@ -11,28 +11,26 @@ use Rattle.parsing.specs.declared.Checked.the-variants.{Accepted, Refused}
 use Rattle.parsing.specs.Parser.{Verdict, refused, verdictOf, orElse}
 use Rattle.memory.specs.Call.{callVerdict}
 use Rattle.memory.specs.CallLaws.{fitting-call}
-use Rattle.runs.specs.Tells.{tellsBy, ChangedBy, RefusedBy}
+use Rattle.runs.specs.CallLaws.{Promised, promised-refused, promised-ran}
 use Rattle.procedure_file.specs.Check.{checkOf, programOf}
 use Rattle.procedure_file.specs.Loaded.{Loaded}
 use Rattle.bench.specs.declared.machine.Answer.{Answer}
-use Rattle.bench.specs.Published.{toldBy, runTells, RunWords, benchVerdict, benchTells, BenchWords, refusedAnswer, CallFits, RunAnswered}
+use Rattle.bench.specs.Published.{saidBy, runTells, RunWords, benchVerdict, benchTells, refusedAnswer, CallFits, RunAnswered}
 
 module _ (s : List ℕ) (f : FunctionNumber) (args : List ℤ) (depth budget : ℕ) (words : List ℤ) where
+  abbrev verdict : Verdict
+  verdict = benchVerdict s f (length args) depth (length words)
+
   -- The three promises of the call.
   abbrev pub Answered : Answer → List ℤ → Type 0
-  Answered a words′ =
-      (toldBy a ≡ benchTells s f args depth budget (length words)) × (BenchWords s f args depth budget a words words′
-      × RefusedBy refusedAnswer (benchVerdict s f (length args) depth (length words)) a)
+  Answered a words′ = Promised (λ b. verdictOf (b .verdict)) saidBy refusedAnswer (benchTells s f args depth budget (length words)) verdict (RunWords s f args depth budget a words words′) a words words′
 
-  -- A refused call: its answer is that of the refusal, and no word was changed.
-  refused-so : {a : Answer} {r : Refusal} → benchVerdict s f (length args) depth (length words) ≡ refused (r .number) (r .place) → a ≡ refusedAnswer r → Answered a words
+  refused-so : {a : Answer} {r : Refusal} → verdict ≡ refused (r .number) (r .place) → a ≡ refusedAnswer r → Answered a words
   unfolding benchTells
-  refused-so {a} e q = (
-    ap toldBy q ∙ ap (λ (v : Verdict). tellsBy v (runTells s f args depth budget)) (sym e),
-    (subst (λ (v : Verdict). ChangedBy v (RunWords s f args depth budget a words words) words words) (sym e) refl, subst (λ (v : Verdict). RefusedBy refusedAnswer v a) (sym e) q),
-  )
+  refused-so {a} {r} e q =
+      promised-refused (λ b. verdictOf (b .verdict)) saidBy refusedAnswer (runTells s f args depth budget) refl (RunWords s f args depth budget a words words) a words r refl e q
 
-  by-check : {v : Verdict} → checkOf s ≡ v → benchVerdict s f (length args) depth (length words) ≡ orElse v (callVerdict f (length (programOf s)) (length args) (functionOf (programOf s) f .params) depth (length words))
+  by-check : {v : Verdict} → checkOf s ≡ v → verdict ≡ orElse v (callVerdict f (length (programOf s)) (length args) (functionOf (programOf s) f .params) depth (length words))
   unfolding benchVerdict
   by-check e = ap (λ (v : Verdict). orElse v (callVerdict f (length (programOf s)) (length args) (functionOf (programOf s) f .params) depth (length words))) e
 
@@ -43,7 +41,7 @@ module _ (s : List ℕ) (f : FunctionNumber) (args : List ℤ) (depth budget : �
   -- A loaded file: what the call itself is refused for, by the number of functions and that of the arguments that are wanted.
   module _ {starts : List ℕ} (L : Loaded s starts) {functions wanted : ℕ} (en : functions ≡ length (programOf s)) (ew : wanted ≡ functionOf (programOf s) f .params)
       {u : Checked} (eu : verdictOf u ≡ callVerdict f functions (length args) wanted depth (length words)) where
-    verdict-is : {c : Checked} → u ≡ c → benchVerdict s f (length args) depth (length words) ≡ verdictOf c
+    verdict-is : {c : Checked} → u ≡ c → verdict ≡ verdictOf c
     verdict-is q =
         by-check (L .isAccepted)
         ∙ (ap₂ (λ (n k : ℕ). callVerdict f n (length args) k depth (length words)) (sym en) (sym ew) ∙ (sym eu ∙ ap verdictOf q))
@@ -58,7 +56,5 @@ module _ (s : List ℕ) (f : FunctionNumber) (args : List ℤ) (depth budget : �
 
     pub call-answered : {a : Answer} {words′ : List ℤ} → u ≡ Accepted → RunAnswered s f args depth budget a words words′ → Answered a words′
     unfolding benchTells
-    call-answered {a} {words′} q R = (
-      R .said ∙ ap (λ (v : Verdict). tellsBy v (runTells s f args depth budget)) (sym (verdict-is q)),
-      (subst (λ (v : Verdict). ChangedBy v (RunWords s f args depth budget a words words′) words words′) (sym (verdict-is q)) (R .held), subst (λ (v : Verdict). RefusedBy refusedAnswer v a) (sym (verdict-is q)) tt),
-    )
+    call-answered {a} {words′} q R =
+        promised-ran (λ b. verdictOf (b .verdict)) saidBy refusedAnswer (runTells s f args depth budget) refl (RunWords s f args depth budget a words words′) a words words′ (verdict-is q) (R .said) (R .held)
