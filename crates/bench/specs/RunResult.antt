@@ -1,5 +1,5 @@
 -- The bench as a machine that runs by the rules, and what holds when it has stopped.
-use Prim.Native.Nat.{ℕ, _*_}
+use Prim.Native.Nat.{ℕ, _+_, _*_}
 use mathlib.Core.Path.{_≡_}
 use mathlib.Core.List.{List}
 use lib.IntN.{ℤ, pos}
@@ -30,12 +30,14 @@ held r vs words = record { regs = r; vars = vs; words = words }
 abbrev pub Reached : List ℕ → ℕ → Regs → List ℤ → List ℤ → State → Type 0
 Reached s limit r vs words S = (stateOf s r vs words ≡ S) × Invariant s limit r vs words
 
--- The bench counts the extras.
-abbrev pub machine : List ℕ → ℕ → Machine State Held
+-- The bench counts the extras: their sum (`total`).
+abbrev pub machine : List ℕ → ℕ → Machine State Held ℕ
 machine s limit =
     record {
       step = step (programOf s) limit;
+      join = λ a b. a + b;
       weight = extra (programOf s);
+      last = λ S. 0;
       Stands = λ m S. Reached s limit (m .regs) (m .vars) (m .words) S;
       count = λ m. m .regs .extras;
       words = λ m. m .words;

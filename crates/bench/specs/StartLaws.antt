@@ -160,7 +160,7 @@ module _ {s : List ℕ} (F : FileInvariant s) {f : FunctionNumber} {args : List 
               record {
                 said =
                     ap (λ (k : Result (Unit {0})). tells (record { result = k; extras = y .regs .extras })) (sym tells-so)
-                    ∙ ap (λ (n : ℕ). tells (record { result = toldOf (runOf s f args depth budget); extras = n })) (sym (stops .counted) ∙ sum);
+                    ∙ ap (λ (n : ℕ). tells (record { result = toldOf (runOf s f args depth budget); extras = n })) (sym (stops .sum) ∙ sum);
                 held =
                     words-after framesIn (λ fs. framesOf s words₂ (length fs) ≡ fs) (ZeroAtEnd (y .regs .extras) (y .regs) us) (Reached s depth (y .regs) us words₁) (StateGiven s answer words₂)
                     clean refl still (runOf s f args depth budget .stop) used reached;

@@ -1,6 +1,7 @@
 -- A step of the bench, as the laws of a machine's loop have it; and the bound on its extras.
 use Prim.Native.Nat.{ℕ, _+_, _-_, _*_, _≤_, _<_}
 use native.Mathlib.Omega.{arith}
+use native.Mathlib.Nat.{add-assoc, add-zero}
 use mathlib.Core.Path.{_≡_, refl, sym, ap, ap₂, subst, _∙_}
 use mathlib.Core.Bool.{Bool, true, false}
 use mathlib.Core.List.{List}
@@ -15,7 +16,7 @@ use Rattle.semantics.specs.StopLaws.{extra-bound}
 use Rattle.runs.specs.declared.End.{End}
 use Rattle.runs.specs.declared.Stopped.the-variants as Stopped
 use Rattle.runs.specs.Stopped.{endAs}
-use Rattle.runs.specs.Machine.{StepAnswer, movedTo, endedWith, deepIn, Answers, Steps, Turn}
+use Rattle.runs.specs.Machine.{StepAnswer, movedTo, endedWith, deepIn, Counts, Answers, Steps, Turn}
 use Rattle.runs.specs.MachineLaws.{turn-start, on-next, on-ended, on-deep, on-spent}
 use Rattle.procedure_layout.specs.Layout.{maxVariables}
 use Rattle.procedure_file.specs.Check.{programOf}
@@ -67,6 +68,9 @@ module _ {s : List ℕ} {limit : ℕ} {r : Regs} {vs words : List ℤ} where
   stepped : {x y : Step} {vs′ words′ : List ℤ} → StepResult s limit r vs words x vs′ words′ → x ≡ y → Steps (machine s limit) (held r vs words) (answerOf r y vs′ words′)
   stepped {x} {vs′ = vs′} {words′ = words′} D e = subst (λ (z : Step). Steps (machine s limit) (held r vs words) (answerOf r z vs′ words′)) e (steps x D)
 
+counts : (s : List ℕ) (limit : ℕ) → Counts (machine s limit)
+counts s limit = record { associative = add-assoc; settled = λ m S h. add-zero (m .regs .extras) }
+
 -- The loop with `left` steps of its budget b left, counted down.
 pub record Loop (s : List ℕ) (limit b : ℕ) (r₀ : Regs) (vs₀ words₀ : List ℤ) (left : ℕ) (r : Regs) (vs words : List ℤ) : Type 0 where
   pub leftBound : left ≤ b
@@ -103,7 +107,7 @@ module _ {s : List ℕ} {limit b : ℕ} {r₀ : Regs} {vs₀ words₀ : List ℤ
           let y : q .extras ≡ r .extras + extra (programOf s) (stateOf s r vs words) = subst (λ (z : Step). StepResult s limit r vs words z vs′ words′) e D .held .1 in
           record {
             leftBound = omega arith;
-            turn = subst (λ (n : ℕ). Turn (machine s limit) b (held r₀ vs₀ words₀) n (held q vs′ words′)) k (on-next (machine s limit) (L .turn) before (stepped D e));
+            turn = subst (λ (n : ℕ). Turn (machine s limit) b (held r₀ vs₀ words₀) n (held q vs′ words′)) k (on-next (machine s limit) (counts s limit) (L .turn) before (stepped D e));
             small = omega arith;
           }
 
@@ -111,12 +115,12 @@ module _ {s : List ℕ} {limit b : ℕ} {r₀ : Regs} {vs₀ words₀ : List ℤ
           → RunResult s limit b r₀ vs₀ words₀ (record { stopped = Stopped.Ended e; steps = b - left + 1; regs = q }) (replicate 32 (pos 0)) words′
       loop-ended {e} {k} h z =
           subst (λ (q : Regs). RunResult s limit b r₀ vs₀ words₀ (record { stopped = Stopped.Ended e; steps = b - left + 1; regs = q }) (replicate 32 (pos 0)) words′) (sym z)
-          (record { ran = on-ended (machine s limit) (L .turn) before (refl, refl) (stepped D h) })
+          (record { ran = on-ended (machine s limit) (counts s limit) (L .turn) before (refl, refl) (stepped D h) })
 
       pub loop-deep : x ≡ Deep → RunResult s limit b r₀ vs₀ words₀ (record { stopped = Stopped.Deep; steps = b - left; regs = r }) vs′ words′
-      loop-deep h = record { ran = on-deep (machine s limit) (L .turn) before (stepped D h) }
+      loop-deep h = record { ran = on-deep (machine s limit) (counts s limit) (L .turn) before (stepped D h) }
 
   pub loop-spent : left ≤ 0 → RunResult s limit b r₀ vs₀ words₀ (record { stopped = Stopped.Spent; steps = b; regs = r }) vs words
   loop-spent l =
       let q : b - left ≡ b = omega arith in
-      record { ran = on-spent (machine s limit) (subst (λ (n : ℕ). Turn (machine s limit) b (held r₀ vs₀ words₀) n (held r vs words)) q (L .turn)) (omega arith) }
+      record { ran = on-spent (machine s limit) (counts s limit) (subst (λ (n : ℕ). Turn (machine s limit) b (held r₀ vs₀ words₀) n (held r vs words)) q (L .turn)) (omega arith) }
