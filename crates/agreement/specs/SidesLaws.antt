@@ -195,7 +195,7 @@ module _ (s : List ℕ) (f : FunctionNumber) (args : List ℤ) (depth budget : �
     fitting : FittingCall f (length (programOf s)) (length args) (functionOf (programOf s) f .params) (length (translationOf s)) (length (m .room)) depth (length (m .frames)) (length (m .records))
     fitting = fitting-call _ _ _ _ _ _ _ _ _ (sym (J .verdict) ∙ ap verdictOf q)
 
-    pub translation-room : Room 0 (translationOf s) (m .room)
+    pub translation-room : Room 0 (length (translationOf s)) (m .room)
     translation-room = let r = fitting in record { fits = omega (arith, r .roomFits); small = omega (arith, r .sizeBound) }
 
     pub call-fits : CallFits s f args depth (m .frames) (m .records)
