@@ -27,7 +27,7 @@ use Rattle.procedure_file.specs.Loaded.{Loaded}
 use Rattle.target_file.specs.Check as Target
 use Rattle.translator.specs.Translated.{translationOf, roomVerdict}
 use Rattle.translator.specs.AnswerLaws.{fitting-room}
-use Rattle.translator_bytes.specs.Writes.{Room, Wrote}
+use Rattle.byte_writers.specs.Writes.{Room, Wrote}
 use Rattle.bench.specs.declared.machine.Answer as BenchAnswer
 use Rattle.bench.specs.Published as Bench
 use Rattle.controller.specs.declared.machine.Answer as ControllerAnswer

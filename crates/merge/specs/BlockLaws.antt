@@ -24,8 +24,8 @@ use Rattle.procedure_layout.specs.Rest.{restFrom, restAt}
 use Rattle.procedure_layout.specs.After.{afterOf}
 use Rattle.procedure_names.specs.Writing.{blockBytes}
 use Rattle.procedure_file.specs.Check.{programOf}
-use Rattle.translator_bytes.specs.Writes.{Room, Wrote}
-use Rattle.translator_bytes.specs.WriteLaws.{Rest, rest-none, rest-from, rest-room, rest-as, rest-more, rest-last, room-front}
+use Rattle.byte_writers.specs.Writes.{Room, Wrote}
+use Rattle.byte_writers.specs.WriteLaws.{Rest, rest-none, rest-from, rest-room, rest-as, rest-more, rest-last, room-front}
 use Rattle.merge.specs.Parts.{stretch, callHead, operationBytes, restBytes}
 use Rattle.merge.specs.Asked.{OperationStands, OperationFits}
 use Rattle.merge.specs.StretchLaws.{stretch-is}

@@ -22,8 +22,8 @@ use Rattle.procedure_file.specs.FileInvariant.{FileInvariant}
 use Rattle.procedure_file.specs.FileInvariantLaws.{invariant}
 use Rattle.procedure_file.specs.AcceptedLaws.{laid-reads}
 use Rattle.procedure_file.specs.LoadedLaws.{loaded-invariant}
-use Rattle.translator_bytes.specs.Writes.{Room}
-use Rattle.translator_bytes.specs.WriteLaws.{Rest, rest-from}
+use Rattle.byte_writers.specs.Writes.{Room}
+use Rattle.byte_writers.specs.WriteLaws.{Rest, rest-from}
 use Rattle.merge.specs.Merged.{mergedOf, versionVerdict, sizeVerdict, filesVerdict}
 use Rattle.merge.specs.Parts.{headBytes, stretch}
 use Rattle.merge.specs.Asked.{BothLoaded, FewFunctions}

@@ -20,8 +20,8 @@ use Rattle.procedure_file.specs.LoadedLaws.{loaded-invariant}
 use Rattle.procedure_file.specs.AcceptedLaws.{laid-reads}
 use Rattle.procedure_file.specs.PlacesLaws.{version-is, label-at}
 use Rattle.procedure_file.specs.TableLaws.{start-room, start-behind, before-room}
-use Rattle.translator_bytes.specs.Writes.{Room}
-use Rattle.translator_bytes.specs.WriteLaws.{Rest, rest-from}
+use Rattle.byte_writers.specs.Writes.{Room}
+use Rattle.byte_writers.specs.WriteLaws.{Rest, rest-from}
 use Rattle.merge.specs.Parts.{stretch, restBytes, entryBytes, labelHead, labelBytes}
 use Rattle.merge.specs.Asked.{OperationStands}
 use Rattle.merge.specs.StretchLaws.{stretch-is}

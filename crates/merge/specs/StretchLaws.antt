@@ -6,8 +6,8 @@ use mathlib.Core.List.{List, [], _∷_, _++_}
 use native.Mathlib.Numerals.{add-one}
 use lib.ListN.{length, getD, take, drop}
 use lib.Seq.{take-at, drop-cons}
-use Rattle.translator_bytes.specs.Writes.{Room, Wrote}
-use Rattle.translator_bytes.specs.WriteLaws.{Rest, rest-none, rest-as, rest-more, rest-done, room-front}
+use Rattle.byte_writers.specs.Writes.{Room, Wrote}
+use Rattle.byte_writers.specs.WriteLaws.{Rest, rest-none, rest-as, rest-more, rest-done, room-front}
 use Rattle.merge.specs.Parts.{stretch}
 
 pub stretch-is : (s : List ℕ) (at next : ℕ) (w r : List ℕ) → drop at s ≡ w ++ r → next ≡ at + length w → stretch s at next ≡ w

@@ -5,7 +5,6 @@ use procedure_layout::layout::After;
 use procedure_layout::layout::after_of;
 use procedure_layout::layout::bytes_before;
 use procedure_operations::operation::operation_at;
-use translator_bytes::bytes;
 ghost use mathlib.Core.List.{map};
 ghost use Prim.Native.Nat.{_≤_, _<_};
 ghost use lib.ListN.{length};
@@ -16,7 +15,7 @@ ghost use Rattle.procedure_names.specs.Writing.{functionBytes};
 ghost use Rattle.procedure_layout.specs.Layout.{maxFunctions};
 ghost use Rattle.procedure_file.specs.Check.{programOf};
 ghost use Rattle.procedure_file.specs.Loaded.{Loaded};
-ghost use Rattle.translator_bytes.specs.Writes.{Room, Wrote};
+ghost use Rattle.byte_writers.specs.Writes.{Room, Wrote};
 ghost use Rattle.merge.specs.Parts.{stretch, operationBytes, restBytes, entryBytes, labelBytes};
 ghost use Rattle.merge.specs.Asked.{OperationFits, OperationStands};
 
@@ -29,7 +28,7 @@ pub fn put_stretch(file: &[u8], at: usize, next: usize, out: &mut [u8], o: usize
     let mut place = o;
     let mut i = at;
     while i < next {
-        place = bytes::put_one(out, place, file[i]);
+        place = byte_writers::put_one(out, place, file[i]);
         i += 1;
     }
     place
@@ -47,7 +46,7 @@ fn put_operation(file: &[u8], at: usize, next: usize, count: u8, out: &mut [u8],
         let n = at + 3;
         let arguments = at + 4;
         let callee = count + file[g];
-        let place = bytes::put_four(out, o, 4, file[x], callee, file[n]);
+        let place = byte_writers::put_four(out, o, 4, file[x], callee, file[n]);
         return put_stretch(file, arguments, next, out, place);
     }
     put_stretch(file, at, next, out, o)
@@ -117,7 +116,7 @@ fn put_entry(
     let locals = table::locals_of(file, starts, f);
     let labels = table::labels_of(file, starts, f);
     let start = table::start_of(file, starts, f, 0);
-    let place = bytes::put_three(out, o, params, locals, labels);
+    let place = byte_writers::put_three(out, o, params, locals, labels);
     put_block(file, start, count, out, place)
 }
 

@@ -1,6 +1,7 @@
 // The merge of two procedure files into one.
 mod functions;
 
+use byte_writers::put_three;
 use parsing::Checked;
 use parsing::Refusal;
 use parsing::or_else;
@@ -11,12 +12,11 @@ use procedure_file::check::load;
 use procedure_file::table::functions_of;
 use procedure_layout::layout::FILE_LIMIT;
 use procedure_layout::layout::MAX_FUNCTIONS;
-use translator_bytes::bytes::put_three;
 ghost use mathlib.Core.Path.{_≡_};
 ghost use lib.ListN.{length};
 ghost use Rattle.parsing.specs.Parser.{verdictOf};
 ghost use Rattle.runs.specs.Tells.{tellsBy, leaves};
-ghost use Rattle.translator_bytes.specs.Writes.{Room, Wrote};
+ghost use Rattle.byte_writers.specs.Writes.{Room, Wrote};
 ghost use Rattle.merge.specs.Merged.{mergedOf, toldBy, versionVerdict, sizeVerdict, filesVerdict, answerOf, outputOf};
 ghost use Rattle.merge.specs.Parts.{headBytes};
 ghost use Rattle.merge.specs.Asked.{BothLoaded, FewFunctions};

@@ -13,7 +13,7 @@ use Rattle.parsing.specs.Parser.{Verdict, accepted, verdictOf}
 use Rattle.parsing.specs.VerdictLaws.{or-accepted, unless-accepted}
 use Rattle.target_tags.specs.Tag.{fileLimit}
 use Rattle.translator.specs.Translated.{translationOf, roomVerdict}
-use Rattle.translator_bytes.specs.Writes.{Room}
+use Rattle.byte_writers.specs.Writes.{Room}
 
 -- A translation that fits.
 pub fitting-room : (n m : ℕ) → roomVerdict n m ≡ accepted → (n ≤ 65535) × (n ≤ m)

@@ -20,8 +20,9 @@ use Rattle.procedure_file.specs.Check.{programOf}
 use Rattle.translator_bytes.specs.Bytes.{tabled, operationBytes, operationSize}
 use Rattle.translator_bytes.specs.declared.jumps.Under.{Under}
 use Rattle.translator_sizes.specs.Parts.{bytesAt}
-use Rattle.translator_bytes.specs.Writes.{Room, Wrote, CallStands}
-use Rattle.translator_bytes.specs.WriteLaws.{room-as, room-front, Rest, rest-none, rest-as, rest-more, rest-done}
+use Rattle.byte_writers.specs.Writes.{Room, Wrote}
+use Rattle.translator_bytes.specs.Writes.{CallStands}
+use Rattle.byte_writers.specs.WriteLaws.{room-as, room-front, Rest, rest-none, rest-as, rest-more, rest-done}
 use Rattle.translator.specs.Standing.{Numbered, Placed}
 use Rattle.translator_sizes.specs.OperationLaws.{Fine, fine, following, split-at, operation-size}
 use Rattle.translator_sizes.specs.CountLaws.{goes-on, never-halts}

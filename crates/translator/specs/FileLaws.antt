@@ -24,8 +24,8 @@ use Rattle.target_file.specs.Writing.{targetBytes, writing}
 use Rattle.translator_sizes.specs.declared.Fields.{Fields}
 use Rattle.translator.specs.Translated.{translationOf}
 use Rattle.translator_sizes.specs.Parts.{partBytes, fieldsOf, labelBytes, functionBytes, functionsBytes}
-use Rattle.translator_bytes.specs.Writes.{Room, Wrote}
-use Rattle.translator_bytes.specs.WriteLaws.{room-less, room-as, room-behind, room-behind-two, wrote-after}
+use Rattle.byte_writers.specs.Writes.{Room, Wrote}
+use Rattle.byte_writers.specs.WriteLaws.{room-less, room-as, room-behind, room-behind-two, wrote-after}
 use Rattle.translator_bytes.specs.JumpLaws.{pair-as}
 use Rattle.translator.specs.Standing.{Placed, Numbered}
 use Rattle.translator_sizes.specs.PartLaws.{label-here, label-is}

@@ -8,8 +8,8 @@ use Rattle.parsing.specs.Bytes.{pairBytes}
 use Rattle.translator_bytes.specs.Bytes.{zeros}
 use Rattle.translator_bytes.specs.declared.jumps.Under.{Under}
 use Rattle.translator_sizes.specs.Parts.{bytesAt, partBytes}
-use Rattle.translator_bytes.specs.Writes.{Room, Wrote}
-use Rattle.translator_bytes.specs.WriteLaws.{room-less, room-as, room-behind, room-behind-two, wrote-after}
+use Rattle.byte_writers.specs.Writes.{Room, Wrote}
+use Rattle.byte_writers.specs.WriteLaws.{room-less, room-as, room-behind, room-behind-two, wrote-after}
 use Rattle.translator_bytes.specs.LengthLaws.{length-zeros}
 use Rattle.translator_bytes.specs.JumpLaws.{pair-as}
 use Rattle.translator_sizes.specs.Standing.{BlockSize}

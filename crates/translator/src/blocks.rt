@@ -19,7 +19,7 @@ use translator_bytes::jumps::Under;
 ghost use mathlib.Core.Path.{_≡_};
 ghost use lib.ListN.{length};
 ghost use Rattle.procedure_operations.specs.Operation.{operationAt, argumentsAt};
-ghost use Rattle.translator_bytes.specs.Writes.{Room, Wrote};
+ghost use Rattle.byte_writers.specs.Writes.{Room, Wrote};
 ghost use Rattle.translator_bytes.specs.Bytes.{tabled, callBytes, callSize, operationBytes, operationSize};
 ghost use Rattle.translator_sizes.specs.Parts.{bytesAt};
 ghost use Rattle.translator.specs.Standing.{Placed};

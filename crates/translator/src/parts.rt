@@ -15,7 +15,7 @@ ghost use Rattle.procedure_file.specs.Loaded.{Tabled, Loaded};
 ghost use Rattle.procedure_file.specs.Check.{programOf};
 ghost use Rattle.semantics.specs.Program.{functionOf};
 ghost use Rattle.semantics.specs.Translation.{number, translate};
-ghost use Rattle.translator_bytes.specs.Writes.{Room, Wrote};
+ghost use Rattle.byte_writers.specs.Writes.{Room, Wrote};
 ghost use Rattle.translator_sizes.specs.Parts.{partBytes, labelBytes, functionBytes, functionsBytes};
 ghost use Rattle.translator.specs.Standing.{Placed, Numbered};
 ghost use Rattle.translator.specs.Translated.{translationOf};
@@ -39,8 +39,8 @@ fn put_part(
     let first = p + 2;
     let body = block_size(file, u, at);
     let size = 6 * (n as usize) + body;
-    let a = bytes::put_one(out, o, p);
-    let b = bytes::put_pair(out, a, size);
+    let a = byte_writers::put_one(out, o, p);
+    let b = byte_writers::put_pair(out, a, size);
     let e = bytes::put_zeros(out, b, first, n);
     put_block(file, numbers, base, u, at, out, e)
 }
@@ -159,8 +159,8 @@ pub fn put_file(file: &[u8], starts: &[u16; 2048], out: &mut [u8]) -> usize
     let mut numbers = [0u16; 32];
     let targets = fill_numbers(file, starts, &mut numbers);
     let mark = b"SPC";
-    let a = bytes::put_three(out, 0, mark[0], mark[1], mark[2]);
-    let b = bytes::put_two(out, a, version, 0);
-    let e = bytes::put_pair(out, b, targets);
+    let a = byte_writers::put_three(out, 0, mark[0], mark[1], mark[2]);
+    let b = byte_writers::put_two(out, a, version, 0);
+    let e = byte_writers::put_pair(out, b, targets);
     put_functions(file, &numbers, starts, out, e)
 }

@@ -14,8 +14,10 @@ use Rattle.procedure_operations.specs.Ranges.{NumbersInRange}
 use Rattle.procedure_fields.specs.declared.fields.ConstantBytes.{ConstantBytes}
 use Rattle.procedure_fields.specs.Number.{countOf}
 use Rattle.procedure_fields.specs.NumberLaws.{argument-in-range}
-use Rattle.translator_bytes.specs.Writes.{Room, Wrote, CallStands}
-use Rattle.translator_bytes.specs.WriteLaws.{room-less, room-as, room-behind, room-behind-two, wrote-after, room-front, Rest, rest-none, rest-as, rest-more, rest-done, arguments-more}
+use Rattle.byte_writers.specs.Writes.{Room, Wrote}
+use Rattle.translator_bytes.specs.Writes.{CallStands}
+use Rattle.byte_writers.specs.WriteLaws.{room-less, room-as, room-behind, room-behind-two, wrote-after, room-front, Rest, rest-none, rest-as, rest-more, rest-done}
+use Rattle.translator_bytes.specs.ListLaws.{arguments-more}
 use Rattle.translator_bytes.specs.Bytes.{ifAny, sizeIfAny, labelJump, callJump, plainCall, guardedHead, guardedCall, branchBytes, raiseEnd, raiseEndSize, raiseBytes, raiseSize, raiseValueBytes, raiseValueSize, differenceBytes, callBytes, callSize}
 use Rattle.translator_bytes.specs.LengthLaws.{label-size, call-size, head-size}
 use Rattle.translator_bytes.specs.declared.jumps.Under.{Under}

@@ -9,7 +9,8 @@ use lib.ListN.{length, length-map}
 use Rattle.semantics.specs.Translation.{slotOf, slotsFrom}
 use Rattle.procedure_operations.specs.Operation.{argumentsAt}
 use Rattle.translator_bytes.specs.Bytes.{ifAny, sizeIfAny, jumpHead, labelJump, callJump, guardedHead, zeros}
-use Rattle.translator_bytes.specs.Writes.{Wrote, CallStands}
+use Rattle.byte_writers.specs.Writes.{Wrote}
+use Rattle.translator_bytes.specs.Writes.{CallStands}
 
 pub length-slots : (x n : ℕ) → length (slotsFrom x n) ≡ n
 length-slots x zero = refl

@@ -1,7 +1,7 @@
--- The bytes of a translation. Definitions: Bytes (what operations become), Writes (what writers are asked and promise).
+-- The bytes of a translation. Definitions: Bytes (what operations become), Writes (what the writers of a call are asked).
 pub mod Bytes
 pub mod Writes
 -- Laws.
-pub mod WriteLaws
+pub mod ListLaws
 pub mod LengthLaws
 pub mod JumpLaws

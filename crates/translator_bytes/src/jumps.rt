@@ -9,7 +9,8 @@ ghost use Rattle.parsing.specs.Fields.{valueOf};
 ghost use Rattle.parsing.specs.Bytes.{valueBytes};
 ghost use Rattle.procedure_operations.specs.Numbers.{maxVariables};
 ghost use Rattle.procedure_operations.specs.Operation.{argumentsAt};
-ghost use Rattle.translator_bytes.specs.Writes.{Room, Wrote, CallStands};
+ghost use Rattle.byte_writers.specs.Writes.{Room, Wrote};
+ghost use Rattle.translator_bytes.specs.Writes.{CallStands};
 ghost use Rattle.translator_bytes.specs.Bytes.{ifAny, sizeIfAny, jumpHead, labelJump, callJump, plainCall, guardedHead, guardedCall, branchBytes, raiseEnd, raiseEndSize, raiseBytes, raiseSize, raiseValueBytes, raiseValueSize, differenceBytes, callBytes, callSize};
 
 // What a block is translated under: the count of variables, the handler in force (0 for none), and two slots (0 for none): the one that a raise there binds first,
@@ -36,7 +37,7 @@ fn put_slot_if_any(out: &mut [u8], o: usize, slot: u8) -> usize
     if slot == 0 {
         o
     } else {
-        bytes::put_one(out, o, slot)
+        byte_writers::put_one(out, o, slot)
     }
 }
 
@@ -62,7 +63,7 @@ fn put_value_if_any(out: &mut [u8], o: usize, slot: u8, y: VariableNumber) -> us
     if slot == 0 {
         o
     } else {
-        bytes::put_three(out, o, 2, slot, from)
+        byte_writers::put_three(out, o, 2, slot, from)
     }
 }
 
@@ -79,9 +80,9 @@ fn put_jump_head(out: &mut [u8], o: usize, g: usize, k: u8, h: u8, n: u8) -> usi
     requires { ⌜ Room o 6 (now out) ⌝ }
     ensures { λ r. ⌜ Wrote o (jumpHead g k h n) (now (out .entry)) r (now (out .exit)) ⌝ }
 {
-    let a = bytes::put_one(out, o, 4);
-    let b = bytes::put_pair(out, a, g);
-    bytes::put_three(out, b, k, h, n)
+    let a = byte_writers::put_one(out, o, 4);
+    let b = byte_writers::put_pair(out, a, g);
+    byte_writers::put_three(out, b, k, h, n)
 }
 
 // The jump to a label with all of v variables.
@@ -131,8 +132,8 @@ fn put_plain_call(
     let k = v + 2;
     let target = bytes::slot_of(x);
     let size = jump_size(n as usize);
-    let a = bytes::put_three(out, o, 8, k, target);
-    let b = bytes::put_pair(out, a, size);
+    let a = byte_writers::put_three(out, o, 8, k, target);
+    let b = byte_writers::put_pair(out, a, size);
     put_call_jump(file, at, out, b, g, k, 1, n)
 }
 
@@ -141,7 +142,7 @@ fn put_guarded_head(out: &mut [u8], o: usize, k: u8, target: u8, t: u8, number: 
     requires { ⌜ Room o (4 + sizeIfAny number 1) (now out) ⌝ }
     ensures { λ r. ⌜ Wrote o (guardedHead k target t number) (now (out .entry)) r (now (out .exit)) ⌝ }
 {
-    let a = bytes::put_four(out, o, 9, k, target, t);
+    let a = byte_writers::put_four(out, o, 9, k, target, t);
     put_slot_if_any(out, a, number)
 }
 
@@ -167,9 +168,9 @@ fn put_guarded_call(
     let size = jump_size(n as usize);
     let other = jump_size(v as usize);
     let a = put_guarded_head(out, o, k, target, t, u.numberSlot);
-    let b = bytes::put_pair(out, a, size);
+    let b = byte_writers::put_pair(out, a, size);
     let e = put_call_jump(file, at, out, b, g, k, t, n);
-    let f = bytes::put_pair(out, e, other);
+    let f = byte_writers::put_pair(out, e, other);
     put_label_jump(out, f, base, v, u.handler)
 }
 
@@ -214,8 +215,8 @@ pub fn put_branch(
     let left = bytes::slot_of(y);
     let right = bytes::slot_of(z);
     let size = jump_size(v as usize);
-    let a = bytes::put_three(out, o, 7, left, right);
-    let b = bytes::put_pair(out, a, size);
+    let a = byte_writers::put_three(out, o, 7, left, right);
+    let b = byte_writers::put_pair(out, a, size);
     let e = put_label_jump(out, b, base, v, l);
     put_label_jump(out, e, base, v, m)
 }
@@ -242,7 +243,7 @@ fn put_raise_end(out: &mut [u8], o: usize, base: usize, u: Under) -> usize
     ensures { λ r. ⌜ Wrote o (raiseEnd base u) (now (out .entry)) r (now (out .exit)) ⌝ }
 {
     if u.handler == 0 {
-        let a = bytes::put_two(out, o, 6, 1);
+        let a = byte_writers::put_two(out, o, 6, 1);
         put_slot_if_any(out, a, u.numberSlot)
     } else {
         put_label_jump(out, o, base, u.variables, u.handler)
@@ -277,7 +278,7 @@ pub fn put_raise_value(out: &mut [u8], o: usize, base: usize, u: Under, y: Varia
 {
     if u.handler == 0 {
         let value = bytes::slot_of(y);
-        bytes::put_three(out, o, 6, 1, value)
+        byte_writers::put_three(out, o, 6, 1, value)
     } else {
         let a = put_value_if_any(out, o, u.bound, y);
         put_label_jump(out, a, base, u.variables, u.handler)
@@ -291,8 +292,8 @@ pub fn put_constant(out: &mut [u8], o: usize, x: ConstantBytes) -> usize
     ensures { λ r. ⌜ Wrote o ((1 ∷ (x .target .0 + 2) ∷ []) ++ valueBytes (valueOf (x .b0) (x .b1) (x .b2) (x .b3))) (now (out .entry)) r (now (out .exit)) ⌝ }
 {
     let target = bytes::slot_of(x.target);
-    let a = bytes::put_two(out, o, 1, target);
-    bytes::put_four(out, a, x.b0, x.b1, x.b2, x.b3)
+    let a = byte_writers::put_two(out, o, 1, target);
+    byte_writers::put_four(out, a, x.b0, x.b1, x.b2, x.b3)
 }
 
 // 2 copy
@@ -303,7 +304,7 @@ pub fn put_copy(out: &mut [u8], o: usize, x: VariableNumber, y: VariableNumber) 
 {
     let target = bytes::slot_of(x);
     let from = bytes::slot_of(y);
-    bytes::put_three(out, o, 2, target, from)
+    byte_writers::put_three(out, o, 2, target, from)
 }
 
 // 3 difference, under the handler in force: its part is what a raise becomes there.
@@ -324,8 +325,8 @@ pub fn put_difference(
     let left = bytes::slot_of(y);
     let right = bytes::slot_of(z);
     let size = raise_size(u);
-    let a = bytes::put_four(out, o, 10, target, left, right);
-    let b = bytes::put_pair(out, a, size);
+    let a = byte_writers::put_four(out, o, 10, target, left, right);
+    let b = byte_writers::put_pair(out, a, size);
     put_raise(out, b, base, u)
 }
 
@@ -336,5 +337,5 @@ pub fn put_return(out: &mut [u8], o: usize, x: VariableNumber) -> usize
     ensures { λ r. ⌜ Wrote o (5 ∷ 0 ∷ (x .0 + 2) ∷ []) (now (out .entry)) r (now (out .exit)) ⌝ }
 {
     let value = bytes::slot_of(x);
-    bytes::put_three(out, o, 5, 0, value)
+    byte_writers::put_three(out, o, 5, 0, value)
 }

@@ -8,7 +8,7 @@ use Rattle.parsing.specs.Parser.{joined}
 use Rattle.semantics.specs.Merge.{renumberedFunction}
 use Rattle.procedure_names.specs.Writing.{functionBytes}
 use Rattle.procedure_file.specs.Check.{programOf}
-use Rattle.translator_bytes.specs.WriteLaws.{room-less, Rest, rest-room, rest-more, rest-last, rest-front}
+use Rattle.byte_writers.specs.WriteLaws.{room-less, Rest, rest-room, rest-more, rest-last, rest-front}
 use Rattle.merge.specs.Merged.{mergedOf}
 use Rattle.merge.specs.Parts.{headBytes, stretch}
 use Rattle.merge.specs.FileLaws.{first-long, file-rest, few, count-is}

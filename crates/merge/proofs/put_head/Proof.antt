@@ -1,6 +1,6 @@
 -- `merge::put_head` meets its contract.
 use mathlib.Core.List.{[], _∷_}
-use Rattle.translator_bytes.specs.WriteLaws.{room-less, room-behind, wrote-after}
+use Rattle.byte_writers.specs.WriteLaws.{room-less, room-behind, wrote-after}
 use native.Mathlib.Omega.{arith}
 use borrow.Author.Needs.{needs}
 use Rattle.merge.proofs.put_head.Statement.{statement}

@@ -3,7 +3,7 @@ use Prim.Native.Nat.{_-_}
 use native.Mathlib.Omega.{arith}
 use mathlib.Core.Path.{_∙_}
 use lib.ListN.{length}
-use Rattle.translator_bytes.specs.WriteLaws.{wrote-length}
+use Rattle.byte_writers.specs.WriteLaws.{wrote-length}
 use Rattle.merge.specs.BlockLaws.{Turn, turn-none, turn-fits, turn-room, turn-moves, turn-next, turn-inside, turn-last, turn-done, turn-never}
 use borrow.Author.Needs.{needs}
 use Rattle.merge.proofs.functions.put_block.Statement.{statement}

@@ -2,7 +2,7 @@
 use native.Mathlib.Omega.{arith}
 use mathlib.Core.Path.{refl}
 use mathlib.Core.List.{[], _∷_, _++_}
-use Rattle.translator_bytes.specs.WriteLaws.{room-less, Rest, rest-room, rest-more, rest-last}
+use Rattle.byte_writers.specs.WriteLaws.{room-less, Rest, rest-room, rest-more, rest-last}
 use Rattle.merge.specs.Parts.{restBytes, entryBytes}
 use Rattle.merge.specs.FunctionLaws.{block-stands, entry-rest}
 use borrow.Author.Needs.{needs}

@@ -8,8 +8,8 @@ use Rattle.semantics.specs.Program.{functionOf}
 use Rattle.semantics.specs.Merge.{renumberedFunction}
 use Rattle.procedure_names.specs.Writing.{functionBytes}
 use Rattle.procedure_file.specs.Check.{programOf}
-use Rattle.translator_bytes.specs.WriteLaws.{Rest, wrote-length, rest-none, rest-from, rest-room, rest-as, rest-more, rest-done, rest-last, room-front, rest-front}
-use Rattle.translator_bytes.specs.Writes.{Room}
+use Rattle.byte_writers.specs.WriteLaws.{Rest, wrote-length, rest-none, rest-from, rest-room, rest-as, rest-more, rest-done, rest-last, room-front, rest-front}
+use Rattle.byte_writers.specs.Writes.{Room}
 use Rattle.merge.specs.Parts.{entryBytes, labelBytes}
 use Rattle.merge.specs.FunctionLaws.{labelsFrom, labels-more, labels-none, function-is}
 use Rattle.merge.proofs.functions.put_function.Statement.{statement}

@@ -9,7 +9,7 @@ use Rattle.semantics.specs.Merge.{renumberedFunction}
 use Rattle.procedure_names.specs.Writing.{functionBytes}
 use Rattle.procedure_file.specs.Check.{programOf}
 use Rattle.procedure_file.specs.LoadedLaws.{loaded-invariant}
-use Rattle.translator_bytes.specs.WriteLaws.{Rest, rest-from, rest-as, rest-more, rest-done, room-front}
+use Rattle.byte_writers.specs.WriteLaws.{Rest, rest-from, rest-as, rest-more, rest-done, room-front}
 use Rattle.merge.specs.FunctionLaws.{functionsFrom, functions-first, functions-more, functions-none}
 use Rattle.merge.proofs.functions.put_functions.Statement.{statement}
 use Rattle.merge.proofs.functions.put_functions.Tie as tie

@@ -4,7 +4,7 @@ use native.Mathlib.Omega.{arith}
 use mathlib.Core.Path.{refl}
 use mathlib.Core.List.{_++_}
 use lib.ListN.{length}
-use Rattle.translator_bytes.specs.WriteLaws.{Rest, rest-room, rest-more, rest-last, rest-front}
+use Rattle.byte_writers.specs.WriteLaws.{Rest, rest-room, rest-more, rest-last, rest-front}
 use Rattle.merge.specs.Parts.{stretch, restBytes, labelBytes}
 use Rattle.merge.specs.FunctionLaws.{block-stands, head-fits, label-rest}
 use borrow.Author.Needs.{needs}

@@ -3,7 +3,7 @@ use Prim.Native.Nat.{_+_}
 use native.Mathlib.Omega.{arith}
 use mathlib.Core.Path.{refl}
 use mathlib.Core.List.{_++_}
-use Rattle.translator_bytes.specs.WriteLaws.{room-less, Rest, rest-room, rest-more, rest-last}
+use Rattle.byte_writers.specs.WriteLaws.{room-less, Rest, rest-room, rest-more, rest-last}
 use Rattle.merge.specs.Parts.{stretch, callHead, operationBytes}
 use Rattle.merge.specs.BlockLaws.{plain-rest, call-rest}
 use borrow.Author.Needs.{needs}

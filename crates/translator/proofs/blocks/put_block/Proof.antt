@@ -1,6 +1,6 @@
 -- `translator::blocks::put_block` meets its contract.
 use Rattle.translator.specs.BlockLaws.{Turn, turn-none, turn-size, turn-room, turn-next, turn-moves, turn-done, turn-never}
-use Rattle.translator_bytes.specs.WriteLaws.{wrote-length}
+use Rattle.byte_writers.specs.WriteLaws.{wrote-length}
 use mathlib.Core.Path.{_∙_}
 use lib.ListN.{length}
 use Prim.Native.Nat.{_-_}

@@ -1,6 +1,6 @@
 -- `translator::parts::put_function` meets its contract.
 use Rattle.translator_sizes.specs.FunctionLaws.{blocksFrom, blocks-first, blocks-more, blocks-none}
-use Rattle.translator_bytes.specs.WriteLaws.{Rest, rest-from, rest-as, rest-more, rest-done, room-front}
+use Rattle.byte_writers.specs.WriteLaws.{Rest, rest-from, rest-as, rest-more, rest-done, room-front}
 use Rattle.translator_sizes.specs.Parts.{functionBytes, labelBytes}
 use Prim.Native.Nat.{_+_, _-_}
 use native.Mathlib.Omega.{arith}

@@ -1,6 +1,6 @@
 -- `translator::parts::put_functions` meets its contract.
 use Rattle.translator.specs.FileLaws.{functions-bound, functionsFrom, functions-first, functions-more, functions-none}
-use Rattle.translator_bytes.specs.WriteLaws.{Rest, rest-from, rest-as, rest-more, rest-done, room-front}
+use Rattle.byte_writers.specs.WriteLaws.{Rest, rest-from, rest-as, rest-more, rest-done, room-front}
 use Rattle.translator_sizes.specs.Parts.{functionBytes, functionsBytes}
 use Prim.Native.Nat.{_+_, _-_}
 use native.Mathlib.Omega.{arith}

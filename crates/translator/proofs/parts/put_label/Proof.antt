@@ -1,7 +1,7 @@
 -- `translator::parts::put_label` meets its contract.
 use Rattle.translator.specs.FileLaws.{functions-bound, label-placed, label-part}
 use Rattle.translator_sizes.specs.PartLaws.{counts-bound}
-use Rattle.translator_bytes.specs.WriteLaws.{room-as}
+use Rattle.byte_writers.specs.WriteLaws.{room-as}
 use Rattle.translator_bytes.specs.JumpLaws.{wrote-as}
 use mathlib.Core.Path.{sym, ap}
 use lib.ListN.{length}

@@ -1,7 +1,8 @@
 -- `translator_bytes::bytes::put_slots` meets its contract.
 use mathlib.Core.Path.{_≡_}
 use Rattle.translator_bytes.specs.LengthLaws.{length-slots}
-use Rattle.translator_bytes.specs.WriteLaws.{room-as, Rest, rest-none, rest-as, rest-more, rest-done, room-front, slots-more}
+use Rattle.byte_writers.specs.WriteLaws.{room-as, Rest, rest-none, rest-as, rest-more, rest-done, room-front}
+use Rattle.translator_bytes.specs.ListLaws.{slots-more}
 use Rattle.semantics.specs.Translation.{slotsFrom}
 use mathlib.Core.List.{[], _∷_}
 use mathlib.Core.Path.{ap}

@@ -1,7 +1,8 @@
 -- `translator_bytes::bytes::put_zeros` meets its contract.
 use mathlib.Core.Path.{_≡_}
 use Rattle.translator_bytes.specs.LengthLaws.{length-zeros}
-use Rattle.translator_bytes.specs.WriteLaws.{room-as, Rest, rest-none, rest-as, rest-more, rest-done, room-front, zeros-more}
+use Rattle.byte_writers.specs.WriteLaws.{room-as, Rest, rest-none, rest-as, rest-more, rest-done, room-front}
+use Rattle.translator_bytes.specs.ListLaws.{zeros-more}
 use Rattle.translator_bytes.specs.Bytes.{zeros}
 use mathlib.Core.List.{[], _∷_, _++_}
 use mathlib.Core.Path.{ap}

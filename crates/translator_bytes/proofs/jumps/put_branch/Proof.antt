@@ -1,6 +1,6 @@
 -- `translator_bytes::jumps::put_branch` meets its contract.
 use Rattle.translator_bytes.specs.JumpLaws.{branch-wrote}
-use Rattle.translator_bytes.specs.WriteLaws.{room-less, room-behind, room-behind-two}
+use Rattle.byte_writers.specs.WriteLaws.{room-less, room-behind, room-behind-two}
 use Rattle.translator_bytes.specs.LengthLaws.{label-size}
 use Prim.Native.Nat.{_+_}
 use native.Mathlib.Omega.{arith}

@@ -1,6 +1,6 @@
 -- `translator_bytes::jumps::put_call` meets its contract.
 use Rattle.translator_bytes.specs.JumpLaws.{plain-as, guarded-as, plain-sum, guarded-sum, wrote-as}
-use Rattle.translator_bytes.specs.WriteLaws.{room-as}
+use Rattle.byte_writers.specs.WriteLaws.{room-as}
 use mathlib.Core.Path.{refl}
 use Rattle.procedure_operations.specs.Operation.{argumentsAt}
 use borrow.Author.Needs.{needs}

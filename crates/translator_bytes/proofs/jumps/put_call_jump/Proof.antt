@@ -1,6 +1,6 @@
 -- `translator_bytes::jumps::put_call_jump` meets its contract.
 
-use Rattle.translator_bytes.specs.WriteLaws.{room-less, room-behind, wrote-after}
+use Rattle.byte_writers.specs.WriteLaws.{room-less, room-behind, wrote-after}
 use Rattle.translator_bytes.specs.Bytes.{jumpHead, callJump}
 use Rattle.semantics.specs.Translation.{slotOf}
 use mathlib.Core.List.{map}

@@ -1,6 +1,6 @@
 -- `translator_bytes::jumps::put_constant` meets its contract.
 use Rattle.translator_bytes.specs.JumpLaws.{ValueFits, constant-wrote}
-use Rattle.translator_bytes.specs.WriteLaws.{room-less, room-behind}
+use Rattle.byte_writers.specs.WriteLaws.{room-less, room-behind}
 use native.Mathlib.Omega.{arith}
 use borrow.Author.Needs.{needs}
 use Rattle.translator_bytes.proofs.jumps.put_constant.Statement.{statement}

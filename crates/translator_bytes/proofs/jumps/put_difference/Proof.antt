@@ -1,6 +1,6 @@
 -- `translator_bytes::jumps::put_difference` meets its contract.
 use Rattle.translator_bytes.specs.JumpLaws.{difference-wrote}
-use Rattle.translator_bytes.specs.WriteLaws.{room-less, room-behind, room-behind-two}
+use Rattle.byte_writers.specs.WriteLaws.{room-less, room-behind, room-behind-two}
 use Rattle.translator_bytes.specs.Bytes.{raiseSize}
 use native.Mathlib.Omega.{arith}
 use borrow.Author.Needs.{needs}

@@ -1,6 +1,6 @@
 -- `translator_bytes::jumps::put_guarded_call` meets its contract.
 use Rattle.translator_bytes.specs.JumpLaws.{guarded-pair-room, guarded-jump-room, guarded-length-room, guarded-label-room, guarded-wrote}
-use Rattle.translator_bytes.specs.WriteLaws.{room-less}
+use Rattle.byte_writers.specs.WriteLaws.{room-less}
 use Rattle.translator_bytes.specs.LengthLaws.{call-size, head-size}
 use mathlib.Core.Path.{refl}
 use native.Mathlib.Omega.{arith}

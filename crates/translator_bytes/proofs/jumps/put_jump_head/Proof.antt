@@ -1,6 +1,6 @@
 -- `translator_bytes::jumps::put_jump_head` meets its contract.
 
-use Rattle.translator_bytes.specs.WriteLaws.{room-less, room-behind, wrote-after}
+use Rattle.byte_writers.specs.WriteLaws.{room-less, room-behind, wrote-after}
 use Rattle.translator_bytes.specs.Bytes.{jumpHead}
 use Rattle.parsing.specs.Bytes.{pairBytes}
 use mathlib.Core.List.{[], _∷_, _++_}

@@ -1,6 +1,6 @@
 -- `translator_bytes::jumps::put_label_jump` meets its contract.
 
-use Rattle.translator_bytes.specs.WriteLaws.{room-less, room-behind, wrote-after}
+use Rattle.byte_writers.specs.WriteLaws.{room-less, room-behind, wrote-after}
 use Rattle.translator_bytes.specs.Bytes.{jumpHead, labelJump}
 use Rattle.semantics.specs.Translation.{slotsFrom}
 use Prim.Native.Nat.{_+_}

@@ -1,6 +1,6 @@
 -- `translator_bytes::jumps::put_plain_call` meets its contract.
 use Rattle.translator_bytes.specs.JumpLaws.{plain-wrote}
-use Rattle.translator_bytes.specs.WriteLaws.{room-less, room-behind, room-behind-two}
+use Rattle.byte_writers.specs.WriteLaws.{room-less, room-behind, room-behind-two}
 use Prim.Native.Nat.{_+_}
 use native.Mathlib.Omega.{arith}
 use Rattle.procedure_operations.specs.Operation.{argumentsAt}

@@ -1,5 +1,5 @@
 -- `translator_bytes::jumps::put_raise` meets its contract.
-use Rattle.translator_bytes.specs.WriteLaws.{room-less, room-behind, wrote-after}
+use Rattle.byte_writers.specs.WriteLaws.{room-less, room-behind, wrote-after}
 use Rattle.translator_bytes.specs.LengthLaws.{any-size}
 use Rattle.translator_bytes.specs.Bytes.{ifAny, sizeIfAny, raiseEnd, raiseBytes, raiseSize}
 use mathlib.Core.List.{[], _∷_, _++_}

@@ -1,6 +1,6 @@
 -- `translator_bytes::jumps::put_raise_end` meets its contract.
 use Rattle.translator_bytes.specs.JumpLaws.{uncaught-as, caught-as, uncaught-end, caught-end, wrote-as}
-use Rattle.translator_bytes.specs.WriteLaws.{room-less, room-as, room-behind, wrote-after}
+use Rattle.byte_writers.specs.WriteLaws.{room-less, room-as, room-behind, wrote-after}
 use Rattle.translator_bytes.specs.Bytes.{ifAny, sizeIfAny}
 use mathlib.Core.List.{[], _∷_}
 use mathlib.Core.Path.{refl}

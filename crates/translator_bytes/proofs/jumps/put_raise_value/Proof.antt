@@ -1,6 +1,6 @@
 -- `translator_bytes::jumps::put_raise_value` meets its contract.
 use Rattle.translator_bytes.specs.JumpLaws.{value-uncaught-as, value-caught-as, value-uncaught-sum, value-caught-sum, wrote-as}
-use Rattle.translator_bytes.specs.WriteLaws.{room-less, room-as, room-behind, wrote-after}
+use Rattle.byte_writers.specs.WriteLaws.{room-less, room-as, room-behind, wrote-after}
 use Rattle.translator_bytes.specs.LengthLaws.{any-size}
 use Rattle.translator_bytes.specs.Bytes.{ifAny, sizeIfAny, labelJump}
 use Prim.Native.Nat.{ℕ, _+_}

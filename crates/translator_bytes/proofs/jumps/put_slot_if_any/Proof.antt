@@ -1,6 +1,6 @@
 -- `translator_bytes::jumps::put_slot_if_any` meets its contract.
 use Rattle.translator_bytes.specs.JumpLaws.{none-as, any-as, any-sum, wrote-as}
-use Rattle.translator_bytes.specs.WriteLaws.{room-as, wrote-none}
+use Rattle.byte_writers.specs.WriteLaws.{room-as, wrote-none}
 use mathlib.Core.List.{[], _∷_}
 use borrow.Author.Needs.{needs}
 use Rattle.translator_bytes.proofs.jumps.put_slot_if_any.Statement.{statement}

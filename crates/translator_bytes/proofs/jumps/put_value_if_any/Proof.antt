@@ -1,6 +1,6 @@
 -- `translator_bytes::jumps::put_value_if_any` meets its contract.
 use Rattle.translator_bytes.specs.JumpLaws.{none-as, any-value-as, any-sum, wrote-as}
-use Rattle.translator_bytes.specs.WriteLaws.{room-as, wrote-none}
+use Rattle.byte_writers.specs.WriteLaws.{room-as, wrote-none}
 use Prim.Native.Nat.{_+_}
 use mathlib.Core.List.{[], _∷_}
 use borrow.Author.Needs.{needs}

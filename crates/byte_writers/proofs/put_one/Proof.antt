@@ -1,10 +1,10 @@
--- `translator_bytes::bytes::put_one` meets its contract.
+-- `byte_writers::put_one` meets its contract.
 
-use Rattle.translator_bytes.specs.WriteLaws.{wrote-one}
+use Rattle.byte_writers.specs.WriteLaws.{wrote-one}
 use mathlib.Core.Path.{refl}
 use borrow.Author.Needs.{needs}
-use Rattle.translator_bytes.proofs.bytes.put_one.Statement.{statement}
-use Rattle.translator_bytes.proofs.bytes.put_one.Tie as tie
+use Rattle.byte_writers.proofs.put_one.Statement.{statement}
+use Rattle.byte_writers.proofs.put_one.Tie as tie
 
 add-next : tie.Need-add-next
 add-next c = search needs

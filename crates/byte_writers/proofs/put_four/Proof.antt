@@ -1,12 +1,12 @@
--- `translator_bytes::bytes::put_four` meets its contract.
+-- `byte_writers::put_four` meets its contract.
 
-use Rattle.translator_bytes.specs.WriteLaws.{wrote-four}
+use Rattle.byte_writers.specs.WriteLaws.{wrote-four}
 use mathlib.Core.Path.{refl}
 use lib.ListN.{length-set}
 use native.Mathlib.Omega.{arith}
 use borrow.Author.Needs.{needs}
-use Rattle.translator_bytes.proofs.bytes.put_four.Statement.{statement}
-use Rattle.translator_bytes.proofs.bytes.put_four.Tie as tie
+use Rattle.byte_writers.proofs.put_four.Statement.{statement}
+use Rattle.byte_writers.proofs.put_four.Tie as tie
 
 add-second : tie.Need-add-second
 add-second c = search needs

@@ -1,15 +1,12 @@
 -- Writes, one behind the other.
-use Prim.Native.Nat.{ℕ, suc, _+_, _≤_, _<_}
+use Prim.Native.Nat.{ℕ, _+_, _≤_}
 use native.Mathlib.Omega.{arith}
 use mathlib.Core.Path.{_≡_, refl, sym, ap, _∙_, subst}
-use mathlib.Core.List.{List, [], _∷_, _++_, map, append-nil}
-use lib.ListN.{length, getD, drop, set, length-append}
-use lib.Seq.{drop-cons}
+use mathlib.Core.List.{List, [], _∷_, _++_, append-nil}
+use lib.ListN.{length, set, length-append}
 use Rattle.memory.specs.Lay.{lay}
 use Rattle.memory.specs.LayLaws.{length-lay, lay-lay, lay-nil, lay-one, lay-two, lay-three, lay-four}
-use Rattle.semantics.specs.Translation.{slotOf, slotsFrom}
-use Rattle.translator_bytes.specs.Writes.{Room, Wrote}
-use Rattle.translator_bytes.specs.Bytes.{zeros}
+use Rattle.byte_writers.specs.Writes.{Room, Wrote}
 
 -- Room for less.
 pub room-less : {o n m : ℕ} {d : List ℕ} → Room o m d → n ≤ m → Room o n d
@@ -118,23 +115,3 @@ module _ {o : ℕ} {d : List ℕ} where
   pub wrote-four : {x y z w r : ℕ} → Room o 4 d → r ≡ o + 4
       → Wrote o (x ∷ y ∷ z ∷ w ∷ []) d r (set (set (set (set d o x) (o + 1) y) (o + 2) z) (o + 3) w)
   wrote-four {x} {y} {z} {w} R e = record { next = e; laid = lay-four o x y z w d (R .fits) }
-
--- The lists that loops write, first element first; n is one more than m.
-pub slots-more : (x n m : ℕ) → n ≡ m + 1 → slotsFrom x n ≡ (x ∷ []) ++ slotsFrom (x + 1) m
-slots-more x n m e =
-    let p : n ≡ suc m = omega arith in
-    let q : suc x ≡ x + 1 = omega arith in
-    ap (slotsFrom x) p ∙ ap (λ (y : ℕ). x ∷ slotsFrom y m) q
-
-pub zeros-more : (x n m : ℕ) → n ≡ m + 1 → zeros x n ≡ ((1 ∷ x ∷ []) ++ (0 ∷ 0 ∷ 0 ∷ 0 ∷ [])) ++ zeros (x + 1) m
-zeros-more x n m e =
-    let p : n ≡ suc m = omega arith in
-    let q : suc x ≡ x + 1 = omega arith in
-    ap (zeros x) p ∙ ap (λ (y : ℕ). ((1 ∷ x ∷ []) ++ (0 ∷ 0 ∷ 0 ∷ 0 ∷ [])) ++ zeros y m) q
-
-pub arguments-more : (ys : List ℕ) (i t : ℕ) → i < length ys → t ≡ getD ys i 0 + 2 → map slotOf (drop i ys) ≡ (t ∷ []) ++ map slotOf (drop (i + 1) ys)
-arguments-more ys i t h e =
-    let q : suc i ≡ i + 1 = omega arith in
-    let u : suc (suc (getD ys i 0)) ≡ t = omega arith in
-    ap (map slotOf) (drop-cons ys i 0 h)
-    ∙ (ap (λ (k : ℕ). suc (suc (getD ys i 0)) ∷ map slotOf (drop k ys)) q ∙ ap (λ (k : ℕ). k ∷ map slotOf (drop (i + 1) ys)) u)

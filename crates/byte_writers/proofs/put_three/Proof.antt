@@ -1,12 +1,12 @@
--- `translator_bytes::bytes::put_three` meets its contract.
+-- `byte_writers::put_three` meets its contract.
 
-use Rattle.translator_bytes.specs.WriteLaws.{wrote-three}
+use Rattle.byte_writers.specs.WriteLaws.{wrote-three}
 use mathlib.Core.Path.{refl}
 use lib.ListN.{length-set}
 use native.Mathlib.Omega.{arith}
 use borrow.Author.Needs.{needs}
-use Rattle.translator_bytes.proofs.bytes.put_three.Statement.{statement}
-use Rattle.translator_bytes.proofs.bytes.put_three.Tie as tie
+use Rattle.byte_writers.proofs.put_three.Statement.{statement}
+use Rattle.byte_writers.proofs.put_three.Tie as tie
 
 add-second : tie.Need-add-second
 add-second c = search needs

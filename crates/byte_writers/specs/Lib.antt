@@ -1,0 +1,4 @@
+-- Writing into lent output. Definitions: Writes (what writers are asked and promise).
+pub mod Writes
+-- Laws.
+pub mod WriteLaws
