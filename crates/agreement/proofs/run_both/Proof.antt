@@ -43,7 +43,7 @@ run-loaded-requires-2 c κs =
     let at-slots-used = c .before .before in
     let at-table-of = at-slots-used .before in
     let entry = entry-before-run (run-before-struct-known (at-table-of .before)) in (
-      record { passes = target-accepted (entry .pre .1 .0) (entry .pre .1 .1 .0); table = at-table-of .table-of .ensures },
+      record { isAccepted = target-accepted (entry .pre .1 .0) (entry .pre .1 .1 .0); table = at-table-of .table-of .ensures },
       (
         controller-fits (entry .pre .1 .0) (entry .pre .1 .1 .0) (entry .pre .1 .1 .1),
         target-kept (entry .pre .1 .0) (entry .pre .1 .1 .0) (at-slots-used .slots-used .ensures),

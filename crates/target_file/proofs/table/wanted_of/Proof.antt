@@ -6,7 +6,7 @@ use Rattle.target_file.proofs.table.wanted_of.Statement.{statement}
 use Rattle.target_file.proofs.table.wanted_of.Tie as tie
 
 functions-of-requires : tie.Need-functions-of-requires
-functions-of-requires c κs = let entry = c .before in entry .pre .passes
+functions-of-requires c κs = let entry = c .before in entry .pre .isAccepted
 
 params-of-requires : tie.Need-params-of-requires
 params-of-requires c κs =
