@@ -27,7 +27,8 @@ use Rattle.semantics.specs.AlikeLaws.{one-more-told}
 use Rattle.semantics.specs.StopLaws.{bench-bound, extras-bound, Together, together, Exactly, exactly, bench-again, controller-left}
 use Rattle.parsing.specs.Parser.{Verdict, accepted, refused}
 use Rattle.parsing.specs.Bytes.{Bytes}
-use Rattle.memory.specs.CallLaws.{call-fits}
+use Rattle.memory.specs.Call.{argumentsVerdict}
+use Rattle.memory.specs.CallLaws.{arguments-fit, call-fits}
 use Rattle.runs.specs.Tells.{Tells, tells, tellsBy, toldOf}
 use Rattle.procedure_names.specs.Writing.{ValuesFit, ReceiverFits, LabelledFits, FunctionInRange}
 use Rattle.procedure_file.specs.Check as Procedure
@@ -97,13 +98,13 @@ module _ (s : List ℕ) (f : FunctionNumber) (args : List ℤ) (depth frames : �
     (la : length args ≡ functionOf (Procedure.programOf s) f .params) (depthBound : depth ≤ 256) (room : 48 * depth ≤ frames) where
   pub bench-tells : (budget : ℕ) → benchTells s f args depth budget frames ≡ tells (Bench.runTells s f args depth budget)
   unfolding benchTells benchVerdict
-  bench-tells budget = rw (ok, call-fits f (length (Procedure.programOf s)) (length args) (functionOf (Procedure.programOf s) f .params) depth frames below la depthBound room)
+  bench-tells budget = rw (ok, call-fits f (length (Procedure.programOf s)) (argumentsVerdict (length args) (functionOf (Procedure.programOf s) f .params)) depth frames below (arguments-fit (length args) (functionOf (Procedure.programOf s) f .params) la) depthBound room)
 
 module _ (t : List ℕ) (g : ℕ) (args : List ℤ) (depth records : ℕ) (ok : Target.checkOf t ≡ accepted) (below : g < length (Target.codeOf t))
     (la : length args ≡ targetOf (Target.codeOf t) g .params) (depthBound : depth ≤ 256) (room : 48 * depth ≤ records) where
   pub controller-tells : (budget : ℕ) → controllerTells t g args depth budget records ≡ tells (toldOf (controller (Target.codeOf t) g args depth budget))
   unfolding controllerTells controllerVerdict
-  controller-tells budget = rw (ok, call-fits g (length (Target.codeOf t)) (length args) (targetOf (Target.codeOf t) g .params) depth records below la depthBound room)
+  controller-tells budget = rw (ok, call-fits g (length (Target.codeOf t)) (argumentsVerdict (length args) (targetOf (Target.codeOf t) g .params)) depth records below (arguments-fit (length args) (targetOf (Target.codeOf t) g .params) la) depthBound room)
 
 locals-bound : (v : ℕ) (P : Program) → All (FunctionInRange v) P → (g : ℕ) → functionOf P g .locals ≤ 24
 locals-bound v [] a g = omega arith

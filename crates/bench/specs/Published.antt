@@ -11,7 +11,7 @@ use Rattle.semantics.specs.Extras.{extras}
 use Rattle.parsing.specs.declared.Refusal.{Refusal}
 use Rattle.parsing.specs.declared.Checked.the-variants.{Refused}
 use Rattle.parsing.specs.Parser.{Verdict, verdictOf, orElse}
-use Rattle.memory.specs.Call.{maxDepth, callVerdict}
+use Rattle.memory.specs.Call.{maxDepth, argumentsVerdict, callVerdict}
 use Rattle.memory.specs.Frame.{frameSize, frameAt}
 use Rattle.runs.specs.declared.Stopped.the-variants.{Spent}
 use Rattle.runs.specs.Stopped.{stoppedAs}
@@ -45,7 +45,7 @@ runTells s f args depth budget = record { result = toldOf (runOf s f args depth 
 
 -- The file's own checks; then 9, where there is no function f to start at; then 14 by its parameters; then 16.
 unfoldable pub benchVerdict : List ℕ → FunctionNumber → ℕ → ℕ → ℕ → Verdict
-benchVerdict s f given depth words = orElse (checkOf s) (callVerdict f (length (programOf s)) given (functionOf (programOf s) f .params) depth words)
+benchVerdict s f given depth words = orElse (checkOf s) (callVerdict f (length (programOf s)) (argumentsVerdict given (functionOf (programOf s) f .params)) depth words)
 
 -- What the bench tells of a file, the function that it starts at, its arguments, a depth limit, a budget and so many lent words.
 unfoldable pub benchTells : List ℕ → FunctionNumber → List ℤ → ℕ → ℕ → ℕ → Tells Told
