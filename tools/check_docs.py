@@ -7,7 +7,7 @@ Of every page: relative links lead to a file; quoted paths exist; what is called
 crate and an identifier of it. Of the pages that speak of the code: every quoted name is an identifier somewhere in crates/. Of docs/TRACE.md: the
 must-fail edits behind 'mf' are edits of the crate named, and no cell of a table is over 300 characters. Lists: the crates of docs/ARCHITECTURE.md,
 the refusals of docs/REFUSALS.md, the functions with a `requires` of docs/DECISIONS.md. Figures: the numbers of crates and edits, the sums of the
-gate's table, the rows of stored cases. Notes on changes, and rows of tables, are not held to the present numbers.
+gate's table, the rows of stored cases. Of must-fail edits: the line that is replaced stands once in its file. Notes on changes, and rows of tables, are not held to the present numbers.
 """
 import glob
 import os
@@ -218,6 +218,17 @@ def required():
         found(page, 1, "has no `requires`: " + name)
 
 
+def edit_texts():
+    """Each line that a must-fail edit replaces stands once in its file."""
+    for edit in sorted(glob.glob("crates/*/must-fail/*.edit")):
+        path = ""
+        for n, line in enumerate(read(edit).split("\n"), 1):
+            if line.startswith("file: "):
+                path = os.path.join("crates", edit.split("/")[1], line[6:])
+            elif line.startswith("old: ") and read(path).count(line[5:]) != 1:
+                found(edit, n, "does not stand once in " + path)
+
+
 def main():
     known = {crate: identifiers(crate) for crate in crates()}
     everything = set().union(*known.values()) | {"io", "libc"}
@@ -246,6 +257,7 @@ def main():
     refusals()
     crate_table(known)
     required()
+    edit_texts()
     print("\n".join(findings) if findings else "%d pages hold" % len(pages()))
     sys.exit(1 if findings else 0)
 
