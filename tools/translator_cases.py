@@ -4,7 +4,7 @@ translation.txt of vectors and of its folders slip-2 and slip-7.
 
 The answers come from tools/procedure.py. Where a vector gives the translation, the model must give the same.
 """
-from procedure import LIMIT, Function, T, differs, filled, throw_value, translation, written
+from procedure import LIMIT, Function, T, call, difference, differs, duplicate, filled, goto, throw, throw_value, translation, written
 from raises import RAISES, T_2
 from records import Refused, agree, judge_room, little, vectors, write
 
@@ -30,11 +30,17 @@ add_vectors("slip-2/translation.txt")
 for room in (106, 105, 0, 300):
     add(T, room)
 
-# A translation of 65,535 bytes is the longest: 16 for one byte of room too few. One byte more is refused with 17, whatever the room.
-add(filled(65535), 65534)
-add(filled(65535), 65535)
-add(filled(65536), 65536)
-add(filled(65536), 10)
+
+# A file with a block of so many calls, copies and differences, and a last operation. With a receiver it is of version 2.
+def long_file(calls, copies, differences, last, *receiver):
+    block = [call(0, 1, [])] * calls + [duplicate(0, 1)] * copies + [difference(0, 1, 2)] * differences + [last]
+    return written(Function(8, 24, [goto(1)], (1, *receiver, block)), Function(0, 0, [throw]), version=len(receiver) + 1)
+
+
+# Translations of 65,586 and 65,542 bytes: 17, whatever the room.
+for differences, rooms in ((2, (65534, 65535)), (1, (65536, 10))):
+    for room in rooms:
+        add(long_file(1255, 0, differences, throw), room)
 
 # Files that the checker refuses: the output is kept.
 add(b"", 50)
@@ -49,10 +55,17 @@ for file, _ in RAISES:
     add(file, len(translation(file)))
 for room in (113, 300):
     add(T_2, room)
-for length in (65535, 65536):
-    add(filled(length, 2), 10)
+for copies, differences in ((0, 2), (16, 1)):
+    add(long_file(1230, copies, differences, throw_value(3), 2), 10)
 for file in (T_2[:-1], T_2 + b"\0", T_2[:12] + b"\2" + T_2[13:], written(Function(1, 0, [throw_value(0)])), T[:3] + b"\3" + T[4:]):
     add(file, 20)
+
+# A translation of 65,535 bytes is the longest: 16 for one byte of room too few. One byte more is refused with 17, whatever the room.
+for room in (65534, 65535):
+    add(filled(65535), room)
+for receiver in ((), (2,)):
+    for length in (65535, 65536):
+        add(filled(length, *receiver), 10)
 
 # One output, of 65,536 bytes, of which each case lends the front.
 out = bytearray(65536)
