@@ -15,6 +15,7 @@ use Rattle.semantics.specs.AlikeLaws.{Paired, controllers-alike, forever-alike}
 use Rattle.parsing.specs.Parser.{Verdict, accepted, refused, orElse}
 use Rattle.parsing.specs.Bytes.{Bytes}
 use Rattle.parsing.specs.VerdictLaws.{or-accepted}
+use Rattle.memory.specs.Frame.{frameSize}
 use Rattle.memory.specs.Call.{argumentsVerdict, callVerdict}
 use Rattle.memory.specs.CallLaws.{start-fits, fitting-arguments, fitting-call}
 use Rattle.runs.specs.Tells.{tellsBy, toldOf}
@@ -47,9 +48,9 @@ stop-of : {a b : Result (Unit {0})} → a ≡ b → a .stop ≡ b .stop
 stop-of e = ap (λ (r : Result (Unit {0})). r .stop) e
 
 -- A call that starts at a function that is there is judged by the arguments that it takes.
-call-alike : {f f′ n n′ : ℕ} (given depth words : ℕ) {wanted wanted′ : ℕ} → f < n → f′ < n′ → wanted′ ≡ wanted → callVerdict f′ n′ (argumentsVerdict given wanted′) depth words ≡ callVerdict f n (argumentsVerdict given wanted) depth words
+call-alike : {f f′ n n′ : ℕ} (given size depth words : ℕ) {wanted wanted′ : ℕ} → f < n → f′ < n′ → wanted′ ≡ wanted → callVerdict f′ n′ (argumentsVerdict given wanted′) size depth words ≡ callVerdict f n (argumentsVerdict given wanted) size depth words
 unfolding callVerdict
-call-alike {f} {f′} {n} {n′} given depth words h h′ e = rw (start-fits f n h, start-fits f′ n′ h′, e)
+call-alike {f} {f′} {n} {n′} given size depth words h h′ e = rw (start-fits f n h, start-fits f′ n′ h′, e)
 
 module _ {s : List ℕ} {f : FunctionNumber} (S : Start s f) (fits : length (translationOf s) ≤ 65535) where
   claim : (args : List ℤ) → length args ≡ functionOf (programOf s) f .params → (depth : ℕ) → Claim s f args depth
@@ -83,9 +84,9 @@ module _ {s r : List ℕ} {f g : FunctionNumber} (S : Start s f) (R : Start r g)
   bench-answers : (args : List ℤ) (depth budget words : ℕ) → benchTells r g args depth budget words ≡ benchTells s f args depth budget words
   unfolding benchTells benchVerdict
   bench-answers args depth budget words =
-      let v = callVerdict f (length (programOf s)) (argumentsVerdict (length args) (functionOf (programOf s) f .params)) depth words in
-      rw (R .isAccepted, S .isAccepted, call-alike (length args) depth words (S .there) (R .there) same)
-      (tells-alike v (runTells r g args depth budget) (runTells s f args depth budget) (λ ok. told (alike args (fitting-arguments _ _ (fitting-call _ _ _ _ _ ok .1)))))
+      let v = callVerdict f (length (programOf s)) (argumentsVerdict (length args) (functionOf (programOf s) f .params)) frameSize depth words in
+      rw (R .isAccepted, S .isAccepted, call-alike (length args) frameSize depth words (S .there) (R .there) same)
+      (tells-alike v (runTells r g args depth budget) (runTells s f args depth budget) (λ ok. told (alike args (fitting-arguments _ _ (fitting-call _ _ _ _ _ _ ok .1)))))
     where
       told : RunsAlike (programOf s) f (programOf r) g args → runTells r g args depth budget ≡ runTells s f args depth budget
       told E = λ i. record { result = record { stop = E .stop depth budget i; steps = E .steps depth budget i }; extras = E .extras depth budget i }
@@ -96,10 +97,10 @@ module _ {s r : List ℕ} {f g : FunctionNumber} (S : Start s f) (R : Start r g)
   controller-answers fits args depth budget words =
       let E = entry S (omega arith) in
       let E′ = entry R fits in
-      let v = callVerdict (entryOf s f) (length (Target.codeOf (translationOf s))) (argumentsVerdict (length args) (targetOf (Target.codeOf (translationOf s)) (entryOf s f) .params)) depth words in
-      rw (E .0, E′ .0, call-alike (length args) depth words (E .1) (E′ .1) (E′ .2 ∙ (same ∙ sym (E .2))))
+      let v = callVerdict (entryOf s f) (length (Target.codeOf (translationOf s))) (argumentsVerdict (length args) (targetOf (Target.codeOf (translationOf s)) (entryOf s f) .params)) frameSize depth words in
+      rw (E .0, E′ .0, call-alike (length args) frameSize depth words (E .1) (E′ .1) (E′ .2 ∙ (same ∙ sym (E .2))))
       (tells-alike v (toldOf (translationRun r g args depth budget)) (toldOf (translationRun s f args depth budget))
-      (λ ok. controllers fits args (fitting-arguments _ _ (fitting-call _ _ _ _ _ ok .1) ∙ E .2) depth budget))
+      (λ ok. controllers fits args (fitting-arguments _ _ (fitting-call _ _ _ _ _ _ ok .1) ∙ E .2) depth budget))
 
   as-before : AsBefore s f r g
   as-before =

@@ -30,7 +30,7 @@ use Rattle.agreement.specs.Statement.{entryOf, translationRun, controlle
 unfoldable pub callVerdict : (start functions given wanted bytes room depth frames records : ℕ) → Verdict
 callVerdict start functions given wanted bytes room depth frames records =
     orElse (startVerdict start functions)
-    (orElse (argumentsVerdict given wanted) (orElse (roomVerdict bytes room) (orElse (wordsVerdict depth frames) (wordsVerdict depth records))))
+    (orElse (argumentsVerdict given wanted) (orElse (roomVerdict bytes room) (orElse (wordsVerdict frameSize depth frames) (wordsVerdict frameSize depth records))))
 
 -- The file's own checks, then those of the call.
 unfoldable pub sidesVerdict : List ℕ → FunctionNumber → (given depth frames room records : ℕ) → Verdict

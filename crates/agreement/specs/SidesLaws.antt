@@ -15,6 +15,7 @@ use Rattle.parsing.specs.declared.Checked.the-variants.{Accepted, Refused}
 use Rattle.parsing.specs.Parser.{Verdict, accepted, refused, verdictOf, orElse}
 use Rattle.parsing.specs.Bytes.{Bytes}
 use Rattle.parsing.specs.VerdictLaws.{or-accepted}
+use Rattle.memory.specs.Frame.{frameSize}
 use Rattle.memory.specs.Call.{startVerdict, argumentsVerdict, wordsVerdict}
 use Rattle.memory.specs.CallLaws.{fitting-start, fitting-arguments, fitting-words}
 use Rattle.runs.specs.Stopped.{stoppedAs}
@@ -141,19 +142,19 @@ record FittingCall (start functions given wanted size room depth frames records 
   sizeBound : size ≤ 65535
   roomFits : size ≤ room
   depthBound : depth ≤ 256
-  framesFit : 48 * depth ≤ frames
-  recordsFit : 48 * depth ≤ records
+  framesFit : frameSize * depth ≤ frames
+  recordsFit : frameSize * depth ≤ records
 
 fitting-call : (start functions given wanted size room depth frames records : ℕ) → callVerdict start functions given wanted size room depth frames records ≡ accepted
     → FittingCall start functions given wanted size room depth frames records
 unfolding callVerdict
 fitting-call start functions given wanted size room depth frames records e =
-    let s = or-accepted (startVerdict start functions) (orElse (argumentsVerdict given wanted) (orElse (roomVerdict size room) (orElse (wordsVerdict depth frames) (wordsVerdict depth records)))) e in
-    let a = or-accepted (argumentsVerdict given wanted) (orElse (roomVerdict size room) (orElse (wordsVerdict depth frames) (wordsVerdict depth records))) (s .1) in
-    let b = or-accepted (roomVerdict size room) (orElse (wordsVerdict depth frames) (wordsVerdict depth records)) (a .1) in
-    let c = or-accepted (wordsVerdict depth frames) (wordsVerdict depth records) (b .1) in
+    let s = or-accepted (startVerdict start functions) (orElse (argumentsVerdict given wanted) (orElse (roomVerdict size room) (orElse (wordsVerdict frameSize depth frames) (wordsVerdict frameSize depth records)))) e in
+    let a = or-accepted (argumentsVerdict given wanted) (orElse (roomVerdict size room) (orElse (wordsVerdict frameSize depth frames) (wordsVerdict frameSize depth records))) (s .1) in
+    let b = or-accepted (roomVerdict size room) (orElse (wordsVerdict frameSize depth frames) (wordsVerdict frameSize depth records)) (a .1) in
+    let c = or-accepted (wordsVerdict frameSize depth frames) (wordsVerdict frameSize depth records) (b .1) in
     let r = fitting-room size room (b .0) in
-    let x = fitting-words depth frames (c .0) in
+    let x = fitting-words frameSize depth frames (c .0) in
     record {
       function = fitting-start start functions (s .0);
       arguments = fitting-arguments given wanted (a .0);
@@ -161,7 +162,7 @@ fitting-call start functions given wanted size room depth frames records e =
       roomFits = r .1;
       depthBound = x .0;
       framesFit = x .1;
-      recordsFit = fitting-words depth records (c .1) .1;
+      recordsFit = fitting-words frameSize depth records (c .1) .1;
     }
 
 -- A call on a loaded file, judged.

@@ -27,6 +27,7 @@ use Rattle.semantics.specs.AlikeLaws.{one-more-told}
 use Rattle.semantics.specs.StopLaws.{bench-bound, extras-bound, Together, together, Exactly, exactly, bench-again, controller-left}
 use Rattle.parsing.specs.Parser.{Verdict, accepted, refused}
 use Rattle.parsing.specs.Bytes.{Bytes}
+use Rattle.memory.specs.Frame.{frameSize}
 use Rattle.memory.specs.Call.{argumentsVerdict}
 use Rattle.memory.specs.CallLaws.{arguments-fit, call-fits}
 use Rattle.runs.specs.Tells.{Tells, tells, tellsBy, toldOf}
@@ -95,16 +96,16 @@ source P h =
 -- ── What each machine tells where it does not refuse ────────────────────────────────────────────
 
 module _ (s : List ℕ) (f : FunctionNumber) (args : List ℤ) (depth frames : ℕ) (ok : Procedure.checkOf s ≡ accepted) (below : f < length (Procedure.programOf s))
-    (la : length args ≡ functionOf (Procedure.programOf s) f .params) (depthBound : depth ≤ 256) (room : 48 * depth ≤ frames) where
+    (la : length args ≡ functionOf (Procedure.programOf s) f .params) (depthBound : depth ≤ 256) (room : frameSize * depth ≤ frames) where
   pub bench-tells : (budget : ℕ) → benchTells s f args depth budget frames ≡ tells (Bench.runTells s f args depth budget)
   unfolding benchTells benchVerdict
-  bench-tells budget = rw (ok, call-fits f (length (Procedure.programOf s)) (argumentsVerdict (length args) (functionOf (Procedure.programOf s) f .params)) depth frames below (arguments-fit (length args) (functionOf (Procedure.programOf s) f .params) la) depthBound room)
+  bench-tells budget = rw (ok, call-fits f (length (Procedure.programOf s)) (argumentsVerdict (length args) (functionOf (Procedure.programOf s) f .params)) frameSize depth frames below (arguments-fit (length args) (functionOf (Procedure.programOf s) f .params) la) depthBound room)
 
 module _ (t : List ℕ) (g : ℕ) (args : List ℤ) (depth records : ℕ) (ok : Target.checkOf t ≡ accepted) (below : g < length (Target.codeOf t))
-    (la : length args ≡ targetOf (Target.codeOf t) g .params) (depthBound : depth ≤ 256) (room : 48 * depth ≤ records) where
+    (la : length args ≡ targetOf (Target.codeOf t) g .params) (depthBound : depth ≤ 256) (room : frameSize * depth ≤ records) where
   pub controller-tells : (budget : ℕ) → controllerTells t g args depth budget records ≡ tells (toldOf (controller (Target.codeOf t) g args depth budget))
   unfolding controllerTells controllerVerdict
-  controller-tells budget = rw (ok, call-fits g (length (Target.codeOf t)) (argumentsVerdict (length args) (targetOf (Target.codeOf t) g .params)) depth records below (arguments-fit (length args) (targetOf (Target.codeOf t) g .params) la) depthBound room)
+  controller-tells budget = rw (ok, call-fits g (length (Target.codeOf t)) (argumentsVerdict (length args) (targetOf (Target.codeOf t) g .params)) frameSize depth records below (arguments-fit (length args) (targetOf (Target.codeOf t) g .params) la) depthBound room)
 
 locals-bound : (v : ℕ) (P : Program) → All (FunctionInRange v) P → (g : ℕ) → functionOf P g .locals ≤ 24
 locals-bound v [] a g = omega arith
@@ -159,7 +160,7 @@ module _ (s : List ℕ) (f : FunctionNumber) (args : List ℤ) (depth : ℕ) (ok
     pub stops-match : StopsMatch P (b .stop) (translationRun s f args depth (controllerBudget (Bench.runTells s f args depth budget)) .stop)
     stops-match = rw budget-is (runs-together budget .stops)
 
-    answers-agree : Bytes s → depth ≤ 256 → (frames records : ℕ) → 48 * depth ≤ frames → 48 * depth ≤ records → AnswersAgree s f args depth budget frames records
+    answers-agree : Bytes s → depth ≤ 256 → (frames records : ℕ) → frameSize * depth ≤ frames → frameSize * depth ≤ records → AnswersAgree s f args depth budget frames records
     answers-agree bytes depthBound frames records lf lr =
         record {
           told = Bench.runTells s f args depth budget;

@@ -1,4 +1,5 @@
 // The side-by-side call: a procedure is translated, and run on both machines.
+use memory::FRAME_SIZE;
 use memory::arguments_checked;
 use memory::start_checked;
 use memory::words_checked;
@@ -46,7 +47,10 @@ fn call_judged(
 ) -> Checked
     ensures { λ r. ⌜ verdictOf r ≡ callVerdict start functions given wanted size room depth frames records ⌝ }
 {
-    let words = or_else(words_checked(depth, frames), words_checked(depth, records));
+    let words = or_else(
+        words_checked(FRAME_SIZE, depth, frames),
+        words_checked(FRAME_SIZE, depth, records),
+    );
     let memory = or_else(room_checked(size, room), words);
     let rest = or_else(arguments_checked(given, wanted), memory);
     or_else(start_checked(start, functions), rest)

@@ -9,6 +9,7 @@ use Rattle.parsing.specs.declared.Refusal.{Refusal}
 use Rattle.parsing.specs.declared.Checked.{Checked}
 use Rattle.parsing.specs.declared.Checked.the-variants.{Accepted, Refused}
 use Rattle.parsing.specs.Parser.{Verdict, refused, verdictOf, orElse}
+use Rattle.memory.specs.Frame.{frameSize}
 use Rattle.memory.specs.Call.{argumentsVerdict, callVerdict}
 use Rattle.memory.specs.CallLaws.{fitting-arguments, fitting-call}
 use Rattle.runs.specs.CallLaws.{Promised, promised-refused, promised-ran}
@@ -30,9 +31,9 @@ module _ (s : List ℕ) (f : FunctionNumber) (args : List ℤ) (depth budget : �
   refused-so {a} {r} e q =
       promised-refused (λ b. verdictOf (b .verdict)) saidBy refusedAnswer (runTells s f args depth budget) refl (RunWords s f args depth budget a words words) a words r refl e q
 
-  by-check : {v : Verdict} → checkOf s ≡ v → verdict ≡ orElse v (callVerdict f (length (programOf s)) (argumentsVerdict (length args) (functionOf (programOf s) f .params)) depth (length words))
+  by-check : {v : Verdict} → checkOf s ≡ v → verdict ≡ orElse v (callVerdict f (length (programOf s)) (argumentsVerdict (length args) (functionOf (programOf s) f .params)) frameSize depth (length words))
   unfolding benchVerdict
-  by-check e = ap (λ (v : Verdict). orElse v (callVerdict f (length (programOf s)) (argumentsVerdict (length args) (functionOf (programOf s) f .params)) depth (length words))) e
+  by-check e = ap (λ (v : Verdict). orElse v (callVerdict f (length (programOf s)) (argumentsVerdict (length args) (functionOf (programOf s) f .params)) frameSize depth (length words))) e
 
   -- The file's own checks.
   pub file-refused : {a : Answer} {u : Checked} {r : Refusal} → verdictOf u ≡ checkOf s → u ≡ Refused r → a ≡ refusedAnswer r → Answered a words
@@ -40,19 +41,19 @@ module _ (s : List ℕ) (f : FunctionNumber) (args : List ℤ) (depth budget : �
 
   -- A loaded file: what the call itself is refused for, by the number of functions and that of the arguments that are wanted.
   module _ {starts : List ℕ} (L : Loaded s starts) {functions wanted : ℕ} (en : functions ≡ length (programOf s)) (ew : wanted ≡ functionOf (programOf s) f .params)
-      {v : Verdict} (ev : v ≡ argumentsVerdict (length args) wanted) {u : Checked} (eu : verdictOf u ≡ callVerdict f functions v depth (length words)) where
+      {v : Verdict} (ev : v ≡ argumentsVerdict (length args) wanted) {u : Checked} (eu : verdictOf u ≡ callVerdict f functions v frameSize depth (length words)) where
     verdict-is : {c : Checked} → u ≡ c → verdict ≡ verdictOf c
     verdict-is q =
         by-check (L .isAccepted)
-        ∙ (ap₂ (λ (n k : ℕ). callVerdict f n (argumentsVerdict (length args) k) depth (length words)) (sym en) (sym ew)
-        ∙ (ap (λ (x : Verdict). callVerdict f functions x depth (length words)) (sym ev) ∙ (sym eu ∙ ap verdictOf q)))
+        ∙ (ap₂ (λ (n k : ℕ). callVerdict f n (argumentsVerdict (length args) k) frameSize depth (length words)) (sym en) (sym ew)
+        ∙ (ap (λ (x : Verdict). callVerdict f functions x frameSize depth (length words)) (sym ev) ∙ (sym eu ∙ ap verdictOf q)))
 
     pub call-refused : {a : Answer} {r : Refusal} → u ≡ Refused r → a ≡ refusedAnswer r → Answered a words
     call-refused q k = refused-so (verdict-is q) k
 
     pub call-fits : u ≡ Accepted → CallFits s f args depth words
     call-fits q =
-        let k = fitting-call f functions v depth (length words) (sym eu ∙ ap verdictOf q) in
+        let k = fitting-call f functions v frameSize depth (length words) (sym eu ∙ ap verdictOf q) in
         record { exists = subst (λ (n : ℕ). f < n) en (k .0); arguments = fitting-arguments (length args) wanted (sym ev ∙ k .1) ∙ ew; depthBound = k .2; room = k .3 }
 
     pub call-answered : {a : Answer} {words′ : List ℤ} → u ≡ Accepted → RunAnswered s f args depth budget a words words′ → Answered a words′

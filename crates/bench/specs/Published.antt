@@ -45,7 +45,7 @@ runTells s f args depth budget = record { result = toldOf (runOf s f args depth 
 
 -- The file's own checks; then 9, where there is no function f to start at; then 14 by its parameters; then 16.
 unfoldable pub benchVerdict : List ℕ → FunctionNumber → ℕ → ℕ → ℕ → Verdict
-benchVerdict s f given depth words = orElse (checkOf s) (callVerdict f (length (programOf s)) (argumentsVerdict given (functionOf (programOf s) f .params)) depth words)
+benchVerdict s f given depth words = orElse (checkOf s) (callVerdict f (length (programOf s)) (argumentsVerdict given (functionOf (programOf s) f .params)) frameSize depth words)
 
 -- What the bench tells of a file, the function that it starts at, its arguments, a depth limit, a budget and so many lent words.
 unfoldable pub benchTells : List ℕ → FunctionNumber → List ℤ → ℕ → ℕ → ℕ → Tells Told
@@ -67,7 +67,7 @@ pub record StateGiven (s : List ℕ) (a : Answer) (words : List ℤ) (S : State)
 -- The words after the run from function f hold the frames left; a stopped run's state is given, and at an end registers and variables are 0.
 abbrev pub RunWords : List ℕ → FunctionNumber → List ℤ → ℕ → ℕ → Answer → List ℤ → List ℤ → Type 0
 RunWords s f args depth budget a words words′ =
-    WordsAfter framesIn (λ fs. framesOf s words′ (length fs) ≡ fs) (ZeroAtEnd (a .extras) (a .regs) (a .vars)) (StateGiven s a words′) depth
+    WordsAfter framesIn (λ fs. framesOf s words′ (length fs) ≡ fs) (ZeroAtEnd (a .extras) (a .regs) (a .vars)) (StateGiven s a words′) frameSize depth
     (runOf s f args depth budget .stop) words words′
 
 abbrev pub BenchWords : List ℕ → FunctionNumber → List ℤ → ℕ → ℕ → Answer → List ℤ → List ℤ → Type 0

@@ -15,6 +15,7 @@ use Rattle.semantics.specs.Extras.{extra, extras}
 use Rattle.semantics.specs.Theorem.{start-wellFormed}
 use Rattle.parsing.specs.declared.Checked.the-variants.{Accepted}
 use Rattle.memory.specs.Lay.{lay}
+use Rattle.memory.specs.Frame.{frameSize}
 use Rattle.memory.specs.LayLaws.{length-lay}
 use Rattle.memory.specs.FrameLaws.{frame-same}
 use Rattle.runs.specs.Stopped.{stoppedAs, inUse}
@@ -126,12 +127,12 @@ module _ {s : List ℕ} (F : FileInvariant s) {f : FunctionNumber} {args : List 
         fits : w ≤ depth
         fits = subst (λ (k : ℕ). k ≤ depth) (sym used) (in-use-fits (y .regs .waiting) (ZeroAtEnd (y .regs .extras) (y .regs) us) (runOf s f args depth budget .stop) (λ S h. h .1 .waiting) reached)
 
-        pub clear-fits : (48 * w ≤ 48 * depth) × (48 * depth ≤ length words₁)
-        clear-fits = let l : w ≤ depth = fits in let k : 48 * depth ≤ length words = C .room in let m : length words₁ ≡ length words = R .ran .keeps .sameLength in (omega arith, omega arith)
+        pub clear-fits : (frameSize * w ≤ frameSize * depth) × (frameSize * depth ≤ length words₁)
+        clear-fits = let l : w ≤ depth = fits in let k : frameSize * depth ≤ length words = C .room in let m : length words₁ ≡ length words = R .ran .keeps .sameLength in (omega arith, omega arith)
 
-        module _ {words₂ : List ℤ} (ec : words₂ ≡ lay (48 * w) (replicate (48 * depth - 48 * w) (pos 0)) words₁) where
-          clean : Cleared depth w words words₁ words₂
-          clean = cleared fits (C .room) (R .ran .keeps .past) (R .ran .keeps .sameLength) ec
+        module _ {words₂ : List ℤ} (ec : words₂ ≡ lay (frameSize * w) (replicate (frameSize * depth - frameSize * w) (pos 0)) words₁) where
+          clean : Cleared frameSize depth w words words₁ words₂
+          clean = cleared frameSize fits (C .room) (R .ran .keeps .past) (R .ran .keeps .sameLength) ec
 
           abbrev answer : Answer
           answer = record { verdict = Accepted; stopped = y .stopped; steps = y .steps; extras = y .regs .extras; regs = y .regs; vars = us }
@@ -148,7 +149,7 @@ module _ {s : List ℕ} (F : FileInvariant s) {f : FunctionNumber} {args : List 
                 record {
                   is = ap (λ (fs : List Frame). state (y .regs .function) (y .regs .handler) (restAt s (y .regs .at)) (take (varsOf s (y .regs .function)) us) fs) k ∙ e;
                   here = I .here;
-                  frames = λ d l. subst (FrameStands s) (frame-same d w words₁ words₂ (omega arith) (sym (clean .below))) (I .frames d l);
+                  frames = λ d l. subst (FrameStands s) (frame-same frameSize d w words₁ words₂ (omega arith) (sym (clean .below))) (I .frames d l);
                   extras = refl;
                 },
                 ap (framesOf s words₂) n ∙ sym g,

@@ -18,7 +18,7 @@ use Rattle.semantics.specs.ListLaws.{at-getD}
 use Rattle.semantics.specs.SlotLaws.{values-are}
 use Rattle.memory.specs.declared.Head.{Head}
 use Rattle.memory.specs.Lay.{lay}
-use Rattle.memory.specs.Frame.{frameAt, Small, frameWords, valuesOf}
+use Rattle.memory.specs.Frame.{frameSize, frameAt, Small, frameWords, valuesOf}
 use Rattle.memory.specs.LayLaws.{length-lay, join}
 use Rattle.memory.specs.GatherLaws.{Gathered, gathered-none, gathered-more, gathered-all}
 use Rattle.memory.specs.FrameLaws.{frame-same, pushed, pushed-head, pushed-fits, pushed-values, pushed-below, pushed-past, pushed-long, pushed-value}
@@ -153,12 +153,12 @@ module _ {s : List ℕ} (F : FileInvariant s) {limit : ℕ} {r : Regs} {vs words
 
   -- With a frame free, and the count v of the caller's variables.
   module _ (free : r .waiting < limit) {v : ℕ} (v-is : v ≡ varsOf s (r .function)) where
-    pub call-push : (48 * (r .waiting + 1) ≤ length words) × (Small saved × ((v ≤ length vs) × (v ≤ 44)))
+    pub call-push : (frameSize * r .waiting + frameSize ≤ length words) × (Small saved × ((v ≤ length vs) × (4 + v ≤ frameSize)))
     call-push =
         let S = call-safe in
         let q : v ≡ varsOf s (r .function) = v-is in
         let b : length vs ≡ 32 = H .variables in
-        let k : 48 * limit ≤ length words = H .room in
+        let k : frameSize * limit ≤ length words = H .room in
         (omega arith, (record { word0 = omega arith; word1 = omega arith; word2 = omega arith; word3 = omega arith }, (omega arith, omega arith)))
 
     -- The rules' step.
@@ -169,22 +169,22 @@ module _ {s : List ℕ} (F : FileInvariant s) {limit : ℕ} {r : Regs} {vs words
         rw (length-frames s words (r .waiting), lt-leb limit (r .waiting) free, at-getD (programOf s) g noFunction callee, values-are own ys ys-small) in
         stepped F H op ∙ d
 
-    room : 48 * (r .waiting + 1) ≤ length words
+    room : frameSize * r .waiting + frameSize ≤ length words
     room = call-push .0
 
-    own-bound : length own ≤ 44
+    own-bound : 4 + length own ≤ frameSize
     own-bound = let e : length own ≡ varsOf s (r .function) = own-long in let m : varsOf s (r .function) ≤ 32 = small F H in omega arith
 
     abbrev after : List ℤ
-    after = pushed (r .waiting) saved own words own-bound room
+    after = pushed frameSize (r .waiting) saved own words own-bound room
 
     -- The frames, with the new one.
     frames-are : framesOf s after (suc (r .waiting)) ≡ frames
     frames-are =
-        ap (λ (fs : List Frame). frameOf s (frameAt (r .waiting) after) ∷ fs) (frames-same s (r .waiting) after words (pushed-below (r .waiting) saved own words own-bound room))
-        ∙ (ap (λ (h : Head). frameWith s h (valuesOf (frameAt (r .waiting) after)) ∷ framesOf s words (r .waiting)) (pushed-head (r .waiting) saved own words own-bound room)
+        ap (λ (fs : List Frame). frameOf s (frameAt (r .waiting) after) ∷ fs) (frames-same s (r .waiting) after words (pushed-below frameSize (r .waiting) saved own words own-bound room))
+        ∙ (ap (λ (h : Head). frameWith s h (valuesOf (frameAt (r .waiting) after)) ∷ framesOf s words (r .waiting)) (pushed-head frameSize (r .waiting) saved own words own-bound room)
         ∙ ap (λ (us : List ℤ). frame (r .function) (r .handler) (restAt s n) us x ∷ framesOf s words (r .waiting))
-        (ap (λ (m : ℕ). take m (valuesOf (frameAt (r .waiting) after))) (sym own-long) ∙ pushed-values (r .waiting) saved own words own-bound room))
+        (ap (λ (m : ℕ). take m (valuesOf (frameAt (r .waiting) after))) (sym own-long) ∙ pushed-values frameSize (r .waiting) saved own words own-bound room))
 
     stands-are : (i : ℕ) → i < suc (r .waiting) → FrameStands s (frameAt i after)
     stands-are i l = by (ℕ-discrete i (r .waiting))
@@ -193,30 +193,30 @@ module _ {s : List ℕ} (F : FileInvariant s) {limit : ℕ} {r : Regs} {vs words
         by (yes e) =
             rw e
             (record {
-              head = pushed-fits (r .waiting) saved own words own-bound room;
-              place = subst (λ (h : Head). Stands s (h .word0) (h .word2)) (sym (pushed-head (r .waiting) saved own words own-bound room)) (on F H op);
+              head = pushed-fits frameSize (r .waiting) saved own words own-bound room;
+              place = subst (λ (h : Head). Stands s (h .word0) (h .word2)) (sym (pushed-head frameSize (r .waiting) saved own words own-bound room)) (on F H op);
             })
         by (no e) =
             let k : i < r .waiting = omega (arith, l, e) in
-            subst (FrameStands s) (sym (frame-same i (r .waiting) after words k (pushed-below (r .waiting) saved own words own-bound room))) (H .frames i k)
+            subst (FrameStands s) (sym (frame-same frameSize i (r .waiting) after words k (pushed-below frameSize (r .waiting) saved own words own-bound room))) (H .frames i k)
 
     -- The words with that frame, and the variables with the arguments.
-    module _ {words′ : List ℤ} (ew : words′ ≡ lay (48 * r .waiting) (frameWords saved (take v vs)) words) where
+    module _ {words′ : List ℤ} (ew : words′ ≡ lay (frameSize * r .waiting) (frameWords saved (take v vs)) words) where
       words-are : words′ ≡ after
-      words-are = ew ∙ ap (λ (j : ℕ). lay (48 * r .waiting) (frameWords saved (take j vs)) words) v-is
+      words-are = ew ∙ ap (λ (j : ℕ). lay (frameSize * r .waiting) (frameWords saved (take j vs)) words) v-is
 
       words-long : length words′ ≡ length words
-      words-long = ap length words-are ∙ pushed-long (r .waiting) saved own words own-bound room
+      words-long = ap length words-are ∙ pushed-long frameSize (r .waiting) saved own words own-bound room
 
       count-is : countOf (operationAt s (r .at)) ≡ c
       unfolding countOf
       count-is = ap countOf op
 
-      pub call-arguments : ArgumentsInBounds s (r .at) c words′ (48 * r .waiting + 4) × (length vs ≡ 32)
+      pub call-arguments : ArgumentsInBounds s (r .at) c words′ (frameSize * r .waiting + 4) × (length vs ≡ 32)
       call-arguments =
           let S = call-safe in
           let q : c ≡ functionAt s g .params = c-is in
-          let y : 48 * (r .waiting + 1) ≤ length words = room in
+          let y : frameSize * r .waiting + frameSize ≤ length words = room in
           let z : length words′ ≡ length words = words-long in (
             record {
               count = count-is;
@@ -229,16 +229,16 @@ module _ {s : List ℕ} (F : FileInvariant s) {limit : ℕ} {r : Regs} {vs words
             H .variables,
           )
 
-      args-are : map (λ (y : ℕ). getD words′ (48 * r .waiting + 4 + y) (pos 0)) ys ≡ args
+      args-are : map (λ (y : ℕ). getD words′ (frameSize * r .waiting + 4 + y) (pos 0)) ys ≡ args
       args-are =
           rw words-are
-          (map-same (λ (y : ℕ). getD after (48 * r .waiting + 4 + y) (pos 0)) (λ (y : ℕ). getD own y (pos 0)) (λ (y : ℕ). y < length own) ys ys-small
-          (λ y l. pushed-value (r .waiting) saved own words own-bound room y l))
+          (map-same (λ (y : ℕ). getD after (frameSize * r .waiting + 4 + y) (pos 0)) (λ (y : ℕ). getD own y (pos 0)) (λ (y : ℕ). y < length own) ys ys-small
+          (λ y l. pushed-value frameSize (r .waiting) saved own words own-bound room y l))
 
       args-long : length args ≡ c
       args-long = length-map ys (λ (y : ℕ). getD own y (pos 0)) ∙ (count ∙ sym c-is)
 
-      module _ {us₁ : List ℤ} (e₁ : us₁ ≡ lay 0 (map (λ (y : ℕ). getD words′ (48 * r .waiting + 4 + y) (pos 0)) ys) vs) {l : ℕ} (l-is : l ≡ functionAt s g .locals) where
+      module _ {us₁ : List ℤ} (e₁ : us₁ ≡ lay 0 (map (λ (y : ℕ). getD words′ (frameSize * r .waiting + 4 + y) (pos 0)) ys) vs) {l : ℕ} (l-is : l ≡ functionAt s g .locals) where
         with-args : us₁ ≡ lay 0 args vs
         with-args = e₁ ∙ ap (λ (zs : List ℤ). lay 0 zs vs) args-are
 
@@ -273,7 +273,7 @@ module _ {s : List ℕ} (F : FileInvariant s) {limit : ℕ} {r : Regs} {vs words
             rw (words-are, ea)
             (moved F H (calling ∙ lands e o) (F .start g 0 callee (omega arith)) (λ i j. stands-are i (subst (λ (w : ℕ). i < w) (add-one (r .waiting)) j))
             (ap length e ∙ (length-lay 0 all vs (omega arith) ∙ d))
-            (pushed-long (r .waiting) saved own words own-bound room) (pushed-past (r .waiting) saved own words own-bound room limit free)
+            (pushed-long frameSize (r .waiting) saved own words own-bound room) (pushed-past frameSize (r .waiting) saved own words own-bound room limit free)
             (ap (λ (j : ℕ). r .extras + j) (t ∙ (ap suc l-is ∙ sym (extra-is F H op)))))
           where
             lands : us₂ ≡ lay 0 all vs → length all ≡ c + l

@@ -14,7 +14,7 @@ use Rattle.semantics.specs.Extras.{extra}
 use Rattle.semantics.specs.FollowCall.{step-wellFormed}
 use Rattle.memory.specs.declared.Head.{Head}
 use Rattle.memory.specs.Lay.{lay}
-use Rattle.memory.specs.Frame.{frameAt}
+use Rattle.memory.specs.Frame.{frameSize, frameAt}
 use Rattle.memory.specs.FrameLaws.{frame-same}
 use Rattle.procedure_operations.specs.declared.operation.Operation.{Operation}
 use Rattle.procedure_operations.specs.Operation.{operationAt}
@@ -31,18 +31,18 @@ pub length-frames : (s : List ℕ) (words : List ℤ) (d : ℕ) → length (fram
 length-frames s words zero = refl
 length-frames s words (suc d) = ap suc (length-frames s words d)
 
--- The frames below d are those of the first 48 × d words.
-pub frames-same : (s : List ℕ) (d : ℕ) (ws us : List ℤ) → take (48 * d) ws ≡ take (48 * d) us → framesOf s ws d ≡ framesOf s us d
+-- The frames below d are those of the first frameSize × d words.
+pub frames-same : (s : List ℕ) (d : ℕ) (ws us : List ℤ) → take (frameSize * d) ws ≡ take (frameSize * d) us → framesOf s ws d ≡ framesOf s us d
 frames-same s zero ws us e = refl
 frames-same s (suc d) ws us e =
-    ap (λ (w : List ℤ). frameOf s w ∷ framesOf s ws d) (frame-same d (suc d) ws us (omega arith) e)
+    ap (λ (w : List ℤ). frameOf s w ∷ framesOf s ws d) (frame-same frameSize d (suc d) ws us (omega arith) e)
     ∙ ap (λ (fs : List Frame). frameOf s (frameAt d us) ∷ fs) (frames-same s d ws us (shorter ws us e))
   where
-    shorter : (a b : List ℤ) → take (48 * suc d) a ≡ take (48 * suc d) b → take (48 * d) a ≡ take (48 * d) b
-    shorter a b q = sym (cut a) ∙ (ap (λ (l : List ℤ). take (48 * d) l) q ∙ cut b)
+    shorter : (a b : List ℤ) → take (frameSize * suc d) a ≡ take (frameSize * suc d) b → take (frameSize * d) a ≡ take (frameSize * d) b
+    shorter a b q = sym (cut a) ∙ (ap (λ (l : List ℤ). take (frameSize * d) l) q ∙ cut b)
       where
-        cut : (l : List ℤ) → take (48 * d) (take (48 * suc d) l) ≡ take (48 * d) l
-        cut l = take-take (48 * d) (48 * suc d) l (omega arith)
+        cut : (l : List ℤ) → take (frameSize * d) (take (frameSize * suc d) l) ≡ take (frameSize * d) l
+        cut l = take-take (frameSize * d) (frameSize * suc d) l (omega arith)
 
 -- The first n words, once n words are laid at the front.
 pub front : (n : ℕ) (w d : List ℤ) → length w ≡ n → take n (lay 0 w d) ≡ w
@@ -103,7 +103,7 @@ module _ {s : List ℕ} (F : FileInvariant s) where
 
     -- A next state.
     pub moved : {q : Regs} {vs′ words′ : List ℤ} → step P limit (stateOf s r vs words) ≡ next (stateOf s q vs′ words′) → Stands s (q .function) (q .at)
-        → ((d : ℕ) → d < q .waiting → FrameStands s (frameAt d words′)) → length vs′ ≡ 32 → length words′ ≡ length words → drop (48 * limit) words′ ≡ drop (48 * limit) words
+        → ((d : ℕ) → d < q .waiting → FrameStands s (frameAt d words′)) → length vs′ ≡ 32 → length words′ ≡ length words → drop (frameSize * limit) words′ ≡ drop (frameSize * limit) words
         → q .extras ≡ r .extras + extra P (stateOf s r vs words) → StepResult s limit r vs words (Next q) vs′ words′
     moved {q} {vs′} {words′} e st fr lv lw k x =
         let w = step-wellFormed P (F .wellFormed) limit (stateOf s r vs words) (stateOf s q vs′ words′) (H .good) e in
@@ -116,7 +116,7 @@ module _ {s : List ℕ} (F : FileInvariant s) where
               frames = fr;
               waiting = count-is q vs′ words′ (w .1 (count-back (H .waiting)));
               depthBound = H .depthBound;
-              room = subst (λ (n : ℕ). 48 * limit ≤ n) (sym lw) (H .room);
+              room = subst (λ (n : ℕ). frameSize * limit ≤ n) (sym lw) (H .room);
               variables = lv;
             },
             x,

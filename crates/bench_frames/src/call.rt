@@ -88,6 +88,7 @@ pub fn call_step(
     let extras = r.extras + added;
     push(
         words,
+        FRAME_SIZE,
         d,
         Head {
             word0: f,

@@ -1,5 +1,7 @@
--- Return and raise. Definition: Raises (a step that raises).
+-- Return and raise. Definitions: Raises (a step that raises), Guarded (the newest frame with a handler, in lent words alone).
 pub mod Raises
--- Laws: to a label, of the frames that are left.
+pub mod Guarded
+-- Laws: to a label, of the search for that frame, of the frames that are left.
 pub mod EnterLaws
+pub mod GuardedLaws
 pub mod UnwindLaws

@@ -8,6 +8,7 @@ use mathlib.Core.Bool.{Bool, true, false, cond}
 use mathlib.Core.List.{List, _∷_}
 use mathlib.Core.Option.{Option, none, some}
 use lib.Dec.{eqb}
+use borrow.Author.Tests.{ne-eqb}
 use lib.IntN.{ℤ, pos}
 use lib.ListN.{length, getD, set, take, drop, length-set}
 use lib.Seq.{take-set-lt, take-take}
@@ -24,7 +25,7 @@ use Rattle.semantics.specs.Matching.{newestGuarded}
 use Rattle.semantics.specs.SlotLaws.{given-some}
 use Rattle.memory.specs.declared.Head.{Head}
 use Rattle.memory.specs.Lay.{lay}
-use Rattle.memory.specs.Frame.{frameAt, headOf, HeadFits, valuesOf}
+use Rattle.memory.specs.Frame.{frameSize, frameAt, headOf, valuesOf}
 use Rattle.memory.specs.LayLaws.{length-lay, length-part}
 use Rattle.memory.specs.FrameLaws.{frame-values}
 use Rattle.procedure_operations.specs.declared.operation.Operation.the-variants.{Return}
@@ -38,6 +39,8 @@ use Rattle.procedure_file.specs.FileInvariant.{FileInvariant, Stands}
 use Rattle.bench_frames.specs.Machine.{functionAt, varsOf, startRegs, frameOf, framesOf, stateOf, Invariant, StepResult}
 use Rattle.bench_frames.specs.StateLaws.{length-frames, front, frameWith, vars-bound, stepped, extra-is, place, placed, there, moved}
 use Rattle.bench_unwind.specs.Raises.{isZero, leaving, Receives, Leaves, Raises}
+use Rattle.bench_unwind.specs.Guarded.{newestGuardedIn, FramesFit}
+use Rattle.bench_unwind.specs.GuardedLaws.{frame-ready}
 use Rattle.bench_unwind.specs.EnterLaws.{enters-by-raise, receiver-at, receiver-set, value-is, no-extras}
 
 -- A waiting frame is well-formed.
@@ -49,10 +52,10 @@ waits s words d (suc w) l a = by (ℕ-discrete d w) (λ (k : d < w). waits s wor
     by (yes e) more = subst (λ (k : ℕ). WellFormedFrame (programOf s) (frameOf s (frameAt k words))) (sym e) (a .0)
     by (no e) more = more (omega (arith, l, e))
 
--- A frame waits in 48 words, and its head can be read.
-pub frame-ready : {s : List ℕ} {limit : ℕ} {r : Regs} {vs words : List ℤ} {d : ℕ} → Invariant s limit r vs words → d < r .waiting → (48 * (d + 1) ≤ length words) × HeadFits (frameAt d words)
-frame-ready {limit = limit} {r = r} {words = words} {d = d} H l =
-    let m : r .waiting ≤ limit = H .waiting in let k : 48 * limit ≤ length words = H .room in (omega arith, H .frames d l .head)
+-- The waiting frames lie in the words, and their heads can be read.
+pub frames-fit : {s : List ℕ} {limit : ℕ} {r : Regs} {vs words : List ℤ} → Invariant s limit r vs words → FramesFit frameSize words (r .waiting)
+frames-fit {limit = limit} {r = r} {words = words} H =
+    let m : r .waiting ≤ limit = H .waiting in let k : frameSize * limit ≤ length words = H .room in record { headRoom = omega arith; room = omega arith; heads = λ d l. H .frames d l .head }
 
 -- The frames up to frame d, with handler k in frame d.
 abbrev framesWith : List ℕ → List ℤ → ℕ → ℕ → List Frame
@@ -60,23 +63,17 @@ framesWith s words d k =
     let h = headOf (frameAt d words) in
     frame (h .word0) k (restAt s (h .word2)) (take (varsOf s (h .word0)) (valuesOf (frameAt d words))) (h .word3) ∷ framesOf s words d
 
--- ── The search for the newest frame with a handler ──────────────────────────────────────────────
+-- ── The newest frame with a handler ─────────────────────────────────────────────────────────────
 
--- A frame with a handler is the newest.
-pub search-found : (s : List ℕ) (words : List ℤ) {w d : ℕ} {h : Head} → w ≡ suc d → h ≡ headOf (frameAt d words) → ¬ (h .word1 ≡ 0) → w ≡ newestGuarded (framesOf s words w)
-search-found s words {d = d} {h = h} q e n = rw q (by (h .word1) refl)
+-- The one that is found in the words is the one of the rules.
+pub guarded-in : (s : List ℕ) (words : List ℤ) (w : ℕ) → newestGuardedIn frameSize words w ≡ newestGuarded (framesOf s words w)
+unfolding newestGuardedIn
+guarded-in s words zero = refl
+guarded-in s words (suc w) = by (headOf (frameAt w words) .word1) (guarded-in s words w)
   where
-    by : (k : ℕ) → h .word1 ≡ k → suc d ≡ newestGuarded (framesOf s words (suc d))
-    by zero z = absurd (n z)
-    by (suc l) z = sym (ap (λ (k : ℕ). newestGuarded (framesWith s words d k)) (sym (ap (λ (k : Head). k .word1) e) ∙ z) ∙ ap suc (length-frames s words d))
-
--- A frame without one is passed.
-pub search-on : (s : List ℕ) (words : List ℤ) {w d : ℕ} {h : Head} → w ≡ suc d → h ≡ headOf (frameAt d words) → h .word1 ≡ 0 → newestGuarded (framesOf s words d) ≡ newestGuarded (framesOf s words w)
-search-on s words {d = d} q e z = rw q (sym (ap (λ (k : ℕ). newestGuarded (framesWith s words d k)) (sym (ap (λ (k : Head). k .word1) e) ∙ z)))
-
--- No frame is left.
-pub search-ends : (s : List ℕ) (words : List ℤ) {w : ℕ} → w ≤ 0 → w ≡ newestGuarded (framesOf s words w)
-search-ends s words {w} l = let q : w ≡ 0 = omega arith in rw q refl
+    by : (k : ℕ) → newestGuardedIn frameSize words w ≡ newestGuarded (framesOf s words w) → cond (eqb k 0) (newestGuardedIn frameSize words w) (suc w) ≡ newestGuarded (framesWith s words w k)
+    by zero e = e
+    by (suc l) e = rw (ne-eqb (suc l) 0 (λ (z : suc l ≡ 0). omega (arith, z))) (ap suc (sym (length-frames s words w)))
 
 -- What a raise of n comes to that its own function does not catch, by the count of the newest frame with a handler.
 abbrev Unwinds : List ℕ → ℤ → List ℤ → ℕ → ℕ → Type 0
@@ -95,9 +92,9 @@ unwinds s n words zero = (refl, refl)
 unwinds s n words (suc w) = by (headOf (frameAt w words) .word1) refl (unwinds s n words w)
   where
     by : (k : ℕ) → headOf (frameAt w words) .word1 ≡ k → Unwinds s n words w (newestGuarded (framesOf s words w)) → Unwinds s n words (suc w) (newestGuarded (framesOf s words (suc w)))
-    by zero e u = subst (Unwinds s n words (suc w)) (search-on s words {w = suc w} {d = w} refl refl e) (unwinds-past s n words w (newestGuarded (framesOf s words w)) e u)
+    by zero e u = subst (Unwinds s n words (suc w)) (sym (ap (λ (k : ℕ). newestGuarded (framesWith s words w k)) e)) (unwinds-past s n words w (newestGuarded (framesOf s words w)) e u)
     by (suc l) e u =
-        subst (Unwinds s n words (suc w)) (search-found s words {w = suc w} {d = w} refl refl (λ (z : headOf (frameAt w words) .word1 ≡ 0). omega (arith, e, z)))
+        subst (Unwinds s n words (suc w)) (sym (ap (λ (k : ℕ). newestGuarded (framesWith s words w k)) e ∙ ap suc (length-frames s words w)))
         (omega arith, omega arith, refl, ap (λ (k : ℕ). caught (framesWith s words w k)) e)
 
 unwound-guarded : (P : Program) (n : ℤ) (f k : ℕ) (b : Block) (vs : List ℤ) (x : ℕ) (fs : List Frame) → 1 ≤ k → unwound P n (frame f k b vs x ∷ fs) ≡ enterByRaise P f k n vs fs
@@ -113,7 +110,7 @@ module _ {s : List ℕ} (F : FileInvariant s) {limit : ℕ} {r : Regs} {vs words
     pub variable : h .word3 < varsOf s (h .word0)
     pub result : h .word3 < 32
     pub stands : Stands s (h .word0) (h .word2)
-    pub copied : (48 * d + 4 + 32 ≤ length words) × (0 + 32 ≤ length vs)
+    pub copied : (frameSize * d + 4 + 32 ≤ length words) × (0 + 32 ≤ length vs)
     pub depthBound : d < 256
 
   pub frame-safe : {d : ℕ} {h : Head} → d < r .waiting → h ≡ headOf (frameAt d words) → FrameSafe d h
@@ -121,7 +118,7 @@ module _ {s : List ℕ} (F : FileInvariant s) {limit : ℕ} {r : Regs} {vs words
       let w : WellFormedFrame (programOf s) (frameWith s h (valuesOf (frameAt d words))) = rw e (waits s words d (r .waiting) l frames-good) in
       let v : varsOf s (h .word0) ≤ 32 = vars-bound F (w .0 .function) in
       let x : h .word3 < varsOf s (h .word0) = subst (λ (k : ℕ). h .word3 < k) (w .0 .variables) (w .1) in
-      let k : 48 * (d + 1) ≤ length words = frame-ready H l .0 in
+      let k : frameSize * d + frameSize ≤ length words = frame-ready (frames-fit H) l .0 .1 in
       let b : length vs ≡ 32 = H .variables in
       let y : r .waiting ≤ limit = H .waiting in
       let z : limit ≤ 256 = H .depthBound in
@@ -140,24 +137,24 @@ module _ {s : List ℕ} (F : FileInvariant s) {limit : ℕ} {r : Regs} {vs words
       frames-good = unfold stateOf in H .good .1
 
   -- A waiting frame whose values are copied to the machine's variables.
-  module _ {d : ℕ} {h : Head} {us : List ℤ} (l : d < r .waiting) (eh : h ≡ headOf (frameAt d words)) (eu : us ≡ lay 0 (take 32 (drop (48 * d + 4) words)) vs) where
+  module _ {d : ℕ} {h : Head} {us : List ℤ} (l : d < r .waiting) (eh : h ≡ headOf (frameAt d words)) (eu : us ≡ lay 0 (take 32 (drop (frameSize * d + 4) words)) vs) where
     abbrev part : List ℤ
-    part = take 32 (drop (48 * d + 4) words)
+    part = take 32 (drop (frameSize * d + 4) words)
 
     part-long : length part ≡ 32
-    part-long = length-part (48 * d + 4) 32 words (frame-safe l eh .copied .0)
+    part-long = length-part (frameSize * d + 4) 32 words (frame-safe l eh .copied .0)
 
-    part-is : (v : ℕ) → v ≤ 32 → take v us ≡ take v (drop (48 * d + 4) words)
+    part-is : (v : ℕ) → v ≤ 32 → take v us ≡ take v (drop (frameSize * d + 4) words)
     part-is v h =
         ap (take v) eu
-        ∙ (sym (take-take v 32 (lay 0 part vs) h) ∙ (ap (take v) (front 32 part vs part-long) ∙ take-take v 32 (drop (48 * d + 4) words) h))
+        ∙ (sym (take-take v 32 (lay 0 part vs) h) ∙ (ap (take v) (front 32 part vs part-long) ∙ take-take v 32 (drop (frameSize * d + 4) words) h))
 
     frame-is : frameOf s (frameAt d words) ≡ frameWith s h us
     frame-is =
         let v : varsOf s (h .word0) ≤ 32 = frame-safe l eh .variableBound in
         ap (λ (k : Head). frameWith s k (valuesOf (frameAt d words))) (sym eh)
         ∙ ap (λ (ws : List ℤ). frame (h .word0) (h .word1) (restAt s (h .word2)) ws (h .word3))
-        (frame-values d (varsOf s (h .word0)) words (omega arith) ∙ sym (part-is (varsOf s (h .word0)) v))
+        (frame-values frameSize d (varsOf s (h .word0)) words (omega arith) ∙ sym (part-is (varsOf s (h .word0)) v))
 
     us-long : length us ≡ 32
     us-long =
@@ -177,7 +174,7 @@ module _ {s : List ℕ} (F : FileInvariant s) {limit : ℕ} {r : Regs} {vs words
   last-below w = omega (arith, w)
 
   pub return-frame : {x y n : ℕ} {v : ℤ} {h : Head} {us : List ℤ} → operationAt s (r .at) ≡ Return x n → y ≡ x → v ≡ getD vs y (pos 0) → ¬ (r .waiting ≡ 0) → h ≡ headOf (frameAt (r .waiting - 1) words)
-      → us ≡ lay 0 (take 32 (drop (48 * (r .waiting - 1) + 4) words)) vs
+      → us ≡ lay 0 (take 32 (drop (frameSize * (r .waiting - 1) + 4) words)) vs
       → StepResult s limit r vs words (Next (record { function = h .word0; handler = h .word1; at = h .word2; waiting = r .waiting - 1; extras = r .extras })) (set us (h .word3) v) words
   unfolding stateOf
   return-frame {v = v} {h = h} {us = us} e ey q w eh eu =
@@ -266,7 +263,7 @@ module _ {s : List ℕ} (F : FileInvariant s) {limit : ℕ} {r : Regs} {vs words
     caught-label eh = let S = frame-safe caught-below eh in (S .function, (rw eh (unwinding (pos 0) .1), S .handler))
 
     pub raise-caught : {x m : ℕ} {n : ℤ} {h : Head} {us ws : List ℤ} {q : Regs} → Leaves s limit r vs words x n → h ≡ headOf (frameAt (k - 1) words)
-        → us ≡ lay 0 (take 32 (drop (48 * (k - 1) + 4) words)) vs → Receives (receiverOf (functionAt s (h .word0)) (h .word1)) n us ws m
+        → us ≡ lay 0 (take 32 (drop (frameSize * (k - 1) + 4) words)) vs → Receives (receiverOf (functionAt s (h .word0)) (h .word1)) n us ws m
         → q ≡ startRegs s (h .word0) (h .word1) (k - 1) (x + 1) → StepResult s limit r vs words (Next q) ws words
     unfolding stateOf
     raise-caught {x} {n = n} {h = h} {us = us} L eh eu E eq =

@@ -25,6 +25,7 @@ ghost use Rattle.procedure_file.specs.FileInvariant.{FileInvariant};
 ghost use Rattle.bench_frames.specs.Machine.{functionAt, startRegs, framesOf, Invariant, StepResult};
 ghost use Rattle.parsing.specs.Fields.{versionOf};
 ghost use Rattle.procedure_file.specs.Places.{receiverOf};
+ghost use Rattle.bench_unwind.specs.Guarded.{newestGuardedIn, FramesFit};
 ghost use Rattle.bench_unwind.specs.Raises.{leaving, Receives, Leaves, Raises};
 
 // The start of the block with label l, which is not 0, of function f.
@@ -76,7 +77,7 @@ pub fn return_step(
         };
     }
     let d = w - 1;
-    let h = head_at(words, d);
+    let h = head_at(words, FRAME_SIZE, d);
     let f = h.word0;
     let from = FRAME_SIZE * d + 4;
     copy(words, from, vars, 0, MAX_VARIABLES);
@@ -91,15 +92,15 @@ pub fn return_step(
     })
 }
 
-// The newest frame with a handler, by its count from the oldest; 0 where there is none.
-fn guarded(file: &[u8], limit: usize, r: Regs, vars: &[i32; 32], words: &[i32]) -> usize
-    requires { ⌜ Invariant (now file) limit r (now vars) (now words) ⌝ }
-    ensures { λ k. ⌜ k ≡ newestGuarded (framesOf (now (file .entry)) (now (words .entry)) (r .waiting)) ⌝ }
+// Of the waiting frames of so many words the newest with a handler, by its count from the oldest; 0 where there is none.
+pub fn guarded(words: &[i32], size: usize, waiting: usize) -> usize
+    requires { ⌜ FramesFit size (now words) waiting ⌝ }
+    ensures { λ k. ⌜ k ≡ newestGuardedIn size (now (words .entry)) waiting ⌝ }
 {
-    let mut w = r.waiting;
+    let mut w = waiting;
     while 0 < w {
         let d = w - 1;
-        let h = head_at(words, d);
+        let h = head_at(words, size, d);
         if h.word1 != 0 {
             return w;
         }
@@ -161,7 +162,7 @@ fn caught_step(
     ensures { λ x. ⌜ StepResult (now (file .entry)) limit r (now (vars .entry)) (now (words .entry)) x (now (vars .exit)) (now (words .entry)) ⌝ }
 {
     let d = k - 1;
-    let h = head_at(words, d);
+    let h = head_at(words, FRAME_SIZE, d);
     let f = h.word0;
     let from = FRAME_SIZE * d + 4;
     copy(words, from, vars, 0, MAX_VARIABLES);
@@ -196,7 +197,7 @@ pub fn raise_step(
         return Step::Next(entered(file, starts, r.function, h, r.waiting, more));
     }
     let more = extras + leaving(file, zero);
-    let k = guarded(file, limit, r, vars, words);
+    let k = guarded(words, FRAME_SIZE, r.waiting);
     if k == 0 {
         return Step::Ended {
             end: End::Uncaught(number),

@@ -8,7 +8,8 @@ use native.Mathlib.Omega.{arith}
 use mir.Facts.{toZ-ofZ}
 use Rattle.bench_unwind.specs.EnterLaws.{received-as}
 use Rattle.procedure_file.specs.LoadedLaws.{loaded-invariant}
-use Rattle.bench_unwind.specs.UnwindLaws.{frame-ready, FrameSafe, frame-safe, caught-below, caught-label, raise-caught}
+use Rattle.bench_unwind.specs.GuardedLaws.{frame-ready}
+use Rattle.bench_unwind.specs.UnwindLaws.{frames-fit, FrameSafe, frame-safe, caught-below, caught-label, raise-caught}
 use borrow.Author.Needs.{needs}
 use Rattle.bench_unwind.proofs.unwind.caught_step.Statement.{statement}
 use Rattle.bench_unwind.proofs.unwind.caught_step.Tie as tie
@@ -33,7 +34,7 @@ sub-d c = search needs
 head-at-requires : tie.Need-head-at-requires
 head-at-requires c κs =
     let entry = c .before in
-    frame-ready (entry .pre .1 .0) (caught-below (loaded-invariant (entry .pre .0)) (entry .pre .1 .0) (entry .pre .1 .1 .1 .1 .0) (entry .pre .1 .1 .1 .1 .1))
+    frame-ready (frames-fit (entry .pre .1 .0)) (caught-below (loaded-invariant (entry .pre .0)) (entry .pre .1 .0) (entry .pre .1 .1 .1 .1 .0) (entry .pre .1 .1 .1 .1 .1))
 
 mul-from : tie.Need-mul-from
 mul-from c = omega (arith, frame-read c .depthBound)

@@ -1,10 +1,11 @@
 -- `bench_unwind::unwind::raise_step` meets its contract.
 use native.Mathlib.Omega.{arith}
+use mathlib.Core.Path.{_∙_}
 use mir.Facts.{toZ-ofZ}
 use Rattle.parsing.specs.Fields.{versionOf}
 use Rattle.procedure_file.specs.LoadedLaws.{loaded-invariant}
 use Rattle.bench_unwind.specs.EnterLaws.{received-few, leaving-few, received-as}
-use Rattle.bench_unwind.specs.UnwindLaws.{here-safe, raise-here, raise-leaves, leaves-as, raise-uncaught}
+use Rattle.bench_unwind.specs.UnwindLaws.{frames-fit, guarded-in, here-safe, raise-here, raise-leaves, leaves-as, raise-uncaught}
 use borrow.Author.Needs.{needs}
 use Rattle.bench_unwind.proofs.unwind.raise_step.Statement.{statement}
 use Rattle.bench_unwind.proofs.unwind.raise_step.Tie as tie
@@ -41,20 +42,22 @@ add-more-2 c =
     omega (arith, c .leaving .ensures, leaving-few (versionOf (entry .args .file .now)) (entry .args .zero), entry .pre .1 .1 .1)
 
 guarded-requires : tie.Need-guarded-requires
-guarded-requires c κs = search needs
+guarded-requires c κs = let entry = c .before .before .before in frames-fit (entry .pre .1 .0)
 
 returns-2 : tie.Need-returns-2
 returns-2 c =
-    let at-leaving = c .before .before .before in
+    let at-guarded = c .before in
+    let at-leaving = at-guarded .before in
     let entry = at-leaving .before .before .before in
     let F = loaded-invariant (entry .pre .0) in
     raise-uncaught F (entry .pre .1 .0) (raise-leaves F (entry .pre .1 .0) (entry .pre .1 .1 .0) (at-leaving .before .if1 .left) (at-leaving .leaving .ensures))
-    (toZ-ofZ (entry .fits .number)) (c .before .guarded .ensures) (c .if2 .taken)
+    (toZ-ofZ (entry .fits .number)) (at-guarded .guarded .ensures ∙ guarded-in (entry .args .file .now) (entry .args .words .now) (entry .args .r .waiting)) (c .if2 .taken)
 
 caught-step-requires : tie.Need-caught-step-requires
 caught-step-requires c κs =
     let at-if2 = c .before in
-    let at-leaving = at-if2 .before .before .before in
+    let at-guarded = at-if2 .before in
+    let at-leaving = at-guarded .before in
     let entry = at-leaving .before .before .before in (
       entry .pre .0,
       (
@@ -64,7 +67,7 @@ caught-step-requires c κs =
               (raise-leaves (loaded-invariant (entry .pre .0)) (entry .pre .1 .0) (entry .pre .1 .1 .0) (at-leaving .before .if1 .left) (at-leaving .leaving .ensures)),
           (
             omega (arith, at-leaving .leaving .ensures, leaving-few (versionOf (entry .args .file .now)) (entry .args .zero), entry .pre .1 .1 .1),
-            (at-if2 .before .guarded .ensures, omega (arith, at-if2 .if2 .left)),
+            (at-guarded .guarded .ensures ∙ guarded-in (entry .args .file .now) (entry .args .words .now) (entry .args .r .waiting), omega (arith, at-if2 .if2 .left)),
           ),
         ),
       ),

@@ -4,7 +4,8 @@ use native.Mathlib.Omega.{arith}
 use mir.Facts.{toZ-ofZ}
 use mir.Syntax.{w32}
 use Rattle.bench_frames.specs.StateLaws.{in-range}
-use Rattle.bench_unwind.specs.UnwindLaws.{frame-ready, FrameSafe, frame-safe, return-value, last-below, return-frame}
+use Rattle.bench_unwind.specs.GuardedLaws.{frame-ready}
+use Rattle.bench_unwind.specs.UnwindLaws.{frames-fit, FrameSafe, frame-safe, return-value, last-below, return-frame}
 use borrow.Author.Needs.{needs}
 use Rattle.bench_unwind.proofs.unwind.return_step.Statement.{statement}
 use Rattle.bench_unwind.proofs.unwind.return_step.Tie as tie
@@ -42,7 +43,7 @@ sub-d c = search needs
 head-at-requires : tie.Need-head-at-requires
 head-at-requires c κs =
     let entry = c .before .before .before .before in
-    frame-ready (entry .pre .1 .0) (last-below (entry .pre .0) (entry .pre .1 .0) (c .if1 .left))
+    frame-ready (frames-fit (entry .pre .1 .0)) (last-below (entry .pre .0) (entry .pre .1 .0) (c .if1 .left))
 
 mul-from : tie.Need-mul-from
 mul-from c = search needs
