@@ -42,6 +42,7 @@ machine s limit =
       count = λ m. m .regs .extras;
       words = λ m. m .words;
       bound = frameSize * limit;
+      Beside = λ m. Unit {0};
     }
 
 -- Registers that stand for no state: all 0, but the extras.

@@ -56,13 +56,13 @@ module _ {s : List ℕ} {limit : ℕ} {r : Regs} {vs words : List ℤ} where
   steps (Next q) {vs′} {words′} D =
       record {
         answers = λ S h. (stateOf s q vs′ words′, from h ∙ sym (D .outcome), (refl, D .held .0), D .held .1 ∙ added-so h);
-        keeps = record { past = D .kept; sameLength = D .sameLength };
+        keeps = record { past = D .kept; sameLength = D .sameLength; beside = λ z. z };
       }
-  steps (Ended e k) D = record { answers = λ S h. (from h ∙ sym (D .outcome), D .held ∙ added-so h); keeps = record { past = D .kept; sameLength = D .sameLength } }
+  steps (Ended e k) D = record { answers = λ S h. (from h ∙ sym (D .outcome), D .held ∙ added-so h); keeps = record { past = D .kept; sameLength = D .sameLength; beside = λ z. z } }
   steps Deep D =
       record {
         answers = λ S h. (from h ∙ sym (D .outcome), ap₂ (λ (us ws : List ℤ). held r us ws) (D .held .0) (D .held .1));
-        keeps = record { past = D .kept; sameLength = D .sameLength };
+        keeps = record { past = D .kept; sameLength = D .sameLength; beside = λ z. z };
       }
 
   stepped : {x y : Step} {vs′ words′ : List ℤ} → StepResult s limit r vs words x vs′ words′ → x ≡ y → Steps (machine s limit) (held r vs words) (answerOf r y vs′ words′)

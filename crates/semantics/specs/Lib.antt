@@ -8,6 +8,7 @@ pub mod WellFormed
 pub mod Code
 pub mod Controller
 pub mod SlotRules
+pub mod Places
 pub mod SlotStates
 pub mod Translation
 pub mod SlotCount
@@ -17,8 +18,8 @@ pub mod Statement
 pub mod Merge
 pub mod VersionOne
 -- Laws and theorems: Theorem proves Statement, SlotStateLaws, DroppedLaws and TranslationRules its claims of the controller and the translation;
--- MergeLaws proves Merge, and AlikeLaws carries it over to the controller; VersionOneLaws proves VersionOne; SlotCountLaws is of SlotCount; Cases is
--- computed.
+-- MergeLaws proves Merge, and AlikeLaws carries it over to the controller; VersionOneLaws proves VersionOne; SlotCountLaws is of SlotCount, PlaceLaws of
+-- Places; Cases is computed.
 pub mod ValueLaws
 pub mod ListLaws
 pub mod RunLaws
@@ -33,6 +34,7 @@ pub mod Theorem
 pub mod StopLaws
 pub mod MergeLaws
 pub mod AlikeLaws
+pub mod PlaceLaws
 pub mod SlotStateLaws
 pub mod DroppedLaws
 pub mod TranslationRules

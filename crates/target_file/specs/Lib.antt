@@ -5,8 +5,9 @@ pub mod Accepted
 pub mod Translated
 pub mod Tables
 pub mod LoadedCode
+pub mod Places
 pub mod SizeFirst
--- Laws and theorems: AcceptedLaws proves Accepted, TranslatedLaws proves Translated, SizeFirstLaws which answers Slip 5 changed, LoadedCodeLaws and FormLaws give what the controller cites.
+-- Laws and theorems: AcceptedLaws proves Accepted, TranslatedLaws proves Translated, SizeFirstLaws which answers Slip 5 changed, LoadedCodeLaws and PlaceLaws give what the controller cites.
 pub mod NumberSlotLaws
 pub mod MoreSlotsLaws
 pub mod RightLaws
@@ -17,6 +18,7 @@ pub mod CodeLaws
 pub mod TablesLaws
 pub mod CheckLaws
 pub mod LoadedCodeLaws
+pub mod PlaceLaws
 pub mod WrittenLaws
 pub mod ReadsBackLaws
 pub mod BytesLaws

@@ -3,7 +3,7 @@ use Prim.Native.Nat.{ℕ, _≤_, _<_}
 use mathlib.Core.List.{List, [], _∷_}
 use mathlib.Core.Option.{Option, none, some}
 use native.Mathlib.Omega.{arith}
-use Rattle.semantics.specs.Code.{Slot, Expr, letConstant, letSlot, letDifference, jump, resume, handle, ifAtMost, letContinuation, letContinuationWithHandler, letDifferenceOrRaise, Target, Code}
+use Rattle.semantics.specs.Code.{Slot, Expr, letConstant, letSlot, letDifference, jump, resume, handle, ifAtMost, letContinuation, letContinuationWithHandler, letDifferenceOrRaise, Code}
 use Rattle.semantics.specs.WellFormed.{All}
 use Rattle.semantics.specs.SlotRules.{wholeKind, Kinds, IsBound, MayRead, MayBind, KeepsRules, entryKinds, KeepsSlotRules}
 use Rattle.target_tags.specs.Tag.{slotsIn, maxSlots}
