@@ -16,7 +16,7 @@ use Rattle.semantics.specs.StopLaws.{extra-bound}
 use Rattle.runs.specs.declared.End.{End}
 use Rattle.runs.specs.declared.Stopped.the-variants as Stopped
 use Rattle.runs.specs.Stopped.{endAs}
-use Rattle.runs.specs.Machine.{StepAnswer, movedTo, endedWith, deepIn, Counts, Answers, Steps, Turn}
+use Rattle.runs.specs.Machine.{StepAnswer, movedTo, endedWith, deepIn, Counts, Steps, Turn}
 use Rattle.runs.specs.MachineLaws.{turn-start, on-next, on-ended, on-deep, on-spent}
 use Rattle.procedure_layout.specs.Layout.{maxVariables}
 use Rattle.procedure_file.specs.Check.{programOf}

@@ -34,8 +34,8 @@ use Rattle.bench_frames.specs.declared.registers.Regs.{Regs}
 use Rattle.bench_frames.specs.declared.registers.Step.the-variants.{Next, Deep}
 use Rattle.procedure_file.specs.Places.{startOf}
 use Rattle.procedure_file.specs.FileInvariant.{FileInvariant, Stands}
-use Rattle.bench_frames.specs.Machine.{functionAt, varsOf, frameOf, framesOf, stateOf, FrameStands, Invariant, StepResult, ArgumentsInBounds}
-use Rattle.bench_frames.specs.StateLaws.{length-frames, frames-same, front, frameWith, vars-bound, before, stepped, extra-is, placed, small, in-range, on, moved}
+use Rattle.bench_frames.specs.Machine.{functionAt, varsOf, frameOf, framesOf, stateOf, FrameStands, Invariant, ArgumentsInBounds}
+use Rattle.bench_frames.specs.StateLaws.{Gives, length-frames, frames-same, front, frameWith, vars-bound, before, stepped, extra-is, placed, small, in-range, on, moved}
 
 map-same : {A B : Type 0} (f g : A → B) (Q : A → Type 0) (xs : List A) → All Q xs → ((x : A) → Q x → f x ≡ g x) → map f xs ≡ map g xs
 map-same f g Q [] a h = refl
@@ -87,7 +87,7 @@ module _ {s : List ℕ} (F : FileInvariant s) {limit : ℕ} {r : Regs} {vs words
   callee = placed F H op .block .1
 
   -- With all frames waiting.
-  pub call-deep : limit ≤ r .waiting → StepResult s limit r vs words Deep vs words
+  pub call-deep : limit ≤ r .waiting → Gives H Deep vs words
   unfolding step
   call-deep l =
       let d : step (programOf s) limit (before F H (Call x g c n)) ≡ tooDeep = rw (length-frames s words (r .waiting), le-leb limit (r .waiting) l) in
@@ -260,7 +260,7 @@ module _ {s : List ℕ} (F : FileInvariant s) {limit : ℕ} {r : Regs} {vs words
         all-long = simp (length-append, length-replicate) (ap (λ (j : ℕ). j + l) args-long)
 
         pub call-done : {a : ℕ} {us₂ : List ℤ} → us₂ ≡ lay c (replicate (c + l - c) (pos 0)) us₁ → a ≡ startOf (programOf s) g 0
-            → StepResult s limit r vs words (Next (record { function = g; handler = 0; at = a; waiting = r .waiting + 1; extras = r .extras + (1 + l) })) us₂ words′
+            → Gives H (Next (record { function = g; handler = 0; at = a; waiting = r .waiting + 1; extras = r .extras + (1 + l) })) us₂ words′
         call-done {us₂ = us₂} e₂ ea =
             let b : c + l ≤ 32 = all-bound in
             let d : length vs ≡ 32 = H .variables in

@@ -22,6 +22,7 @@ use Rattle.procedure_operations.specs.Ranges.{NumbersInRange}
 use Rattle.procedure_file.specs.Check.{programOf}
 use Rattle.procedure_layout.specs.Rest.{restFrom, restAt}
 use Rattle.bench_frames.specs.declared.registers.Regs.{Regs}
+use Rattle.bench_frames.specs.declared.registers.Step.{Step}
 use Rattle.bench_frames.specs.declared.registers.Step.the-variants.{Next}
 use Rattle.procedure_file.specs.FileInvariant.{FileInvariant, Stands}
 use Rattle.bench_frames.specs.Machine.{functionAt, varsOf, frameOf, framesOf, stateOf, FrameStands, Invariant, StepResult}
@@ -52,6 +53,10 @@ front n w d q = take-at w (drop (0 + length w) d) n q
 -- The frame with head h and variables vs.
 abbrev pub frameWith : List ℕ → Head → List ℤ → Frame
 frameWith s h vs = frame (h .word0) (h .word1) (restAt s (h .word2)) (take (varsOf s (h .word0)) vs) (h .word3)
+
+-- What a step gives from where the machine stands.
+abbrev pub Gives : {s : List ℕ} {limit : ℕ} {r : Regs} {vs words : List ℤ} → Invariant s limit r vs words → Step → List ℤ → List ℤ → Type 0
+Gives {s} {limit} {r} {vs} {words} H x vs′ words′ = StepResult s limit r vs words x vs′ words′
 
 module _ {s : List ℕ} (F : FileInvariant s) where
   pub vars-bound : {f : ℕ} → f < length (programOf s) → varsOf s f ≤ 32
@@ -104,7 +109,7 @@ module _ {s : List ℕ} (F : FileInvariant s) where
     -- A next state.
     pub moved : {q : Regs} {vs′ words′ : List ℤ} → step P limit (stateOf s r vs words) ≡ next (stateOf s q vs′ words′) → Stands s (q .function) (q .at)
         → ((d : ℕ) → d < q .waiting → FrameStands s (frameAt d words′)) → length vs′ ≡ 32 → length words′ ≡ length words → drop (frameSize * limit) words′ ≡ drop (frameSize * limit) words
-        → q .extras ≡ r .extras + extra P (stateOf s r vs words) → StepResult s limit r vs words (Next q) vs′ words′
+        → q .extras ≡ r .extras + extra P (stateOf s r vs words) → Gives H (Next q) vs′ words′
     moved {q} {vs′} {words′} e st fr lv lw k x =
         let w = step-wellFormed P (F .wellFormed) limit (stateOf s r vs words) (stateOf s q vs′ words′) (H .good) e in
         record {

@@ -28,7 +28,7 @@ use Rattle.bench_frames.specs.declared.registers.Step.{Step}
 use Rattle.bench_frames.specs.declared.registers.Step.the-variants.{Next}
 use Rattle.procedure_file.specs.FileInvariant.{FileInvariant, Stands}
 use Rattle.bench_frames.specs.Machine.{functionAt, varsOf, startRegs, framesOf, stateOf, Invariant, StepResult}
-use Rattle.bench_frames.specs.StateLaws.{before, stepped, extra-is, placed, there, on, moved}
+use Rattle.bench_frames.specs.StateLaws.{Gives, before, stepped, extra-is, placed, there, on, moved}
 use Rattle.bench_unwind.specs.Raises.{Raises}
 use Rattle.bench_step.specs.Subtracts.{behind, Subtracts}
 use Rattle.bench_unwind.specs.EnterLaws.{value-of, value-is, no-extras, to-label}
@@ -42,7 +42,7 @@ module _ {s : List ℕ} (F : FileInvariant s) {limit : ℕ} {r : Regs} {vs words
 
   -- A value is assigned to variable x, which is a in the code.
   assigned : {o : Operation} {x a n : ℕ} {u v : ℤ} {q : Regs} → operationAt s (r .at) ≡ o → a ≡ x → v ≡ u → q ≡ behind r n → x < varsOf s (r .function) → Stands s (r .function) n → extra (programOf s) (before F H o) ≡ 0
-      → step (programOf s) limit (before F H o) ≡ next (state (r .function) (r .handler) (restAt s n) (set now-vars x u) now-frames) → StepResult s limit r vs words (Next q) (set vs a v) words
+      → step (programOf s) limit (before F H o) ≡ next (state (r .function) (r .handler) (restAt s n) (set now-vars x u) now-frames) → Gives H (Next q) (set vs a v) words
   unfolding stateOf
   assigned {x = x} {n = n} {u = u} e ea ev eq lx st z m =
       rw (ea, ev, eq)
@@ -53,12 +53,12 @@ module _ {s : List ℕ} (F : FileInvariant s) {limit : ℕ} {r : Regs} {vs words
   value y = getD vs y (pos 0)
 
   -- 1 constant
-  pub constant-done : {x a n : ℕ} {i v : ℤ} {q : Regs} → operationAt s (r .at) ≡ Constant x i n → a ≡ x → v ≡ i → q ≡ behind r n → StepResult s limit r vs words (Next q) (set vs a v) words
+  pub constant-done : {x a n : ℕ} {i v : ℤ} {q : Regs} → operationAt s (r .at) ≡ Constant x i n → a ≡ x → v ≡ i → q ≡ behind r n → Gives H (Next q) (set vs a v) words
   unfolding step
   constant-done e ea ev eq = assigned e ea ev eq (placed F H e .block .0) (on F H e) refl refl
 
   -- 2 copy
-  pub copy-done : {x y a b n : ℕ} {v : ℤ} {q : Regs} → operationAt s (r .at) ≡ Copy x y n → a ≡ x → b ≡ y → v ≡ value b → q ≡ behind r n → StepResult s limit r vs words (Next q) (set vs a v) words
+  pub copy-done : {x y a b n : ℕ} {v : ℤ} {q : Regs} → operationAt s (r .at) ≡ Copy x y n → a ≡ x → b ≡ y → v ≡ value b → q ≡ behind r n → Gives H (Next q) (set vs a v) words
   unfolding step
   copy-done e ea eb ev eq = assigned e ea (ev ∙ ap value eb) eq (placed F H e .block .0) (on F H e) refl (rw (value-is F H (placed F H e .block .1)))
 
@@ -77,7 +77,7 @@ module _ {s : List ℕ} (F : FileInvariant s) {limit : ℕ} {r : Regs} {vs words
       (rw (p, q, value-is F H (w .1), value-is F H (w .2), k), rw (value-of F H (w .1), value-of F H (w .2), k))
 
   pub difference-done : {x y z x′ y′ z′ n : ℕ} {a b v : ℤ} {c : Bool} {q : Regs} → operationAt s (r .at) ≡ Difference x y z n → x′ ≡ x → y′ ≡ y → z′ ≡ z → a ≡ value y′ → b ≡ value z′ → c ≡ inRange (a -ℤ b) → c ≡ true
-      → v ≡ minus a b → q ≡ behind r n → StepResult s limit r vs words (Next q) (set vs x′ v) words
+      → v ≡ minus a b → q ≡ behind r n → Gives H (Next q) (set vs x′ v) words
   difference-done {a = a} {b = b} e ex ey ez ea eb ec et ev eq =
       let D = judged e ey ez ea eb ec et in assigned e ex (ev ∙ minus-same a b (sym ec ∙ et)) eq (placed F H e .block .0) (on F H e) (D .1) (D .0)
 
@@ -93,7 +93,7 @@ module _ {s : List ℕ} (F : FileInvariant s) {limit : ℕ} {r : Regs} {vs words
   pub goto-safe : {l n : ℕ} → operationAt s (r .at) ≡ Goto l n → (r .function < length (programOf s)) × IsLabel (length (functionAt s (r .function) .blocks)) l
   goto-safe e = (there F H, placed F H e .block)
 
-  pub goto-done : {l n : ℕ} {q : Regs} → operationAt s (r .at) ≡ Goto l n → q ≡ startRegs s (r .function) l (r .waiting) (r .extras) → StepResult s limit r vs words (Next q) vs words
+  pub goto-done : {l n : ℕ} {q : Regs} → operationAt s (r .at) ≡ Goto l n → q ≡ startRegs s (r .function) l (r .waiting) (r .extras) → Gives H (Next q) vs words
   unfolding step
   goto-done e eq = to-label F H (placed F H e .block) (stepped F H e) (no-extras (extra-is F H e)) eq
 
@@ -111,7 +111,7 @@ module _ {s : List ℕ} (F : FileInvariant s) {limit : ℕ} {r : Regs} {vs words
   chosen false a b = b
 
   pub branch-done : {y z y′ z′ l m n : ℕ} {a b : ℤ} {c c′ : Bool} {q : Regs} → operationAt s (r .at) ≡ Branch y z l m n → y′ ≡ y → z′ ≡ z → a ≡ value y′ → b ≡ value z′ → c ≡ atMost a b → c ≡ c′
-      → q ≡ startRegs s (r .function) (cond c′ l m) (r .waiting) (r .extras + 1) → StepResult s limit r vs words (Next q) vs words
+      → q ≡ startRegs s (r .function) (cond c′ l m) (r .waiting) (r .extras + 1) → Gives H (Next q) vs words
   unfolding step
   branch-done {y} {z} {c′ = c′} e ey ez ea eb ec et eq =
       let w = placed F H e .block in

@@ -25,8 +25,8 @@ use Rattle.procedure_file.specs.Places.{startOf, handlerOf, receiverOf}
 use Rattle.procedure_file.specs.FileInvariant.{FileInvariant}
 use Rattle.bench_frames.specs.declared.registers.Regs.{Regs}
 use Rattle.bench_frames.specs.declared.registers.Step.the-variants.{Next}
-use Rattle.bench_frames.specs.Machine.{functionAt, varsOf, startRegs, framesOf, stateOf, Invariant, StepResult}
-use Rattle.bench_frames.specs.StateLaws.{place, there, moved}
+use Rattle.bench_frames.specs.Machine.{functionAt, varsOf, startRegs, framesOf, stateOf, Invariant}
+use Rattle.bench_frames.specs.StateLaws.{Gives, place, there, moved}
 use Rattle.procedure_names.specs.Writing.{receiverByte}
 use Rattle.bench_unwind.specs.Raises.{leaving, Receives}
 
@@ -80,7 +80,7 @@ module _ {s : List ℕ} (F : FileInvariant s) where
 
     -- To a label of the running function, with k extras.
     pub to-label : {l k : ℕ} {q : Regs} → IsLabel (length (functionAt s (r .function) .blocks)) l → step (programOf s) limit (stateOf s r vs words) ≡ enter (programOf s) (r .function) l now-vars now-frames
-        → k ≡ r .extras + extra (programOf s) (stateOf s r vs words) → q ≡ startRegs s (r .function) l (r .waiting) k → StepResult s limit r vs words (Next q) vs words
+        → k ≡ r .extras + extra (programOf s) (stateOf s r vs words) → q ≡ startRegs s (r .function) l (r .waiting) k → Gives H (Next q) vs words
     unfolding stateOf
     to-label {l = l} il m x eq =
         rw eq (moved F H (m ∙ enters (there F H) il now-vars now-frames) (F .start (r .function) l (there F H) (il .1)) (H .frames) (H .variables) refl refl x)

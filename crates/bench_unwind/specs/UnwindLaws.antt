@@ -16,7 +16,7 @@ use Rattle.semantics.specs.Program.{Variable, Block, Program, variables}
 use Rattle.semantics.specs.Run.{uncaught, next, end}
 use Rattle.semantics.specs.Bench.{Frame, frame, state, returned, enterByRaise, unwound, raised, step}
 use Rattle.semantics.specs.WellFormed.{All, IsLabel, WellFormedFrame}
-use Rattle.semantics.specs.Extras.{caught, one, bindings, raiseExtra, extra}
+use Rattle.semantics.specs.Extras.{caught, one, bindings, raiseExtra}
 use Rattle.semantics.specs.Translation.{slotOf, receiverAt}
 use Rattle.semantics.specs.Follow.{length-received}
 use Rattle.parsing.specs.Fields.{versionOf}
@@ -36,8 +36,8 @@ use Rattle.bench_frames.specs.declared.registers.Regs.{Regs}
 use Rattle.bench_frames.specs.declared.registers.Step.the-variants.{Next, Ended}
 use Rattle.runs.specs.declared.End.the-variants.{Value, Uncaught}
 use Rattle.procedure_file.specs.FileInvariant.{FileInvariant, Stands}
-use Rattle.bench_frames.specs.Machine.{functionAt, varsOf, startRegs, frameOf, framesOf, stateOf, Invariant, StepResult}
-use Rattle.bench_frames.specs.StateLaws.{length-frames, front, frameWith, vars-bound, stepped, extra-is, place, placed, there, moved}
+use Rattle.bench_frames.specs.Machine.{functionAt, varsOf, startRegs, frameOf, framesOf, stateOf, Invariant}
+use Rattle.bench_frames.specs.StateLaws.{Gives, length-frames, front, frameWith, vars-bound, stepped, extra-is, place, placed, there, moved}
 use Rattle.bench_unwind.specs.Raises.{isZero, leaving, Receives, Leaves, Raises}
 use Rattle.bench_unwind.specs.Guarded.{newestGuardedIn, FramesFit}
 use Rattle.bench_unwind.specs.GuardedLaws.{frame-ready}
@@ -167,7 +167,7 @@ module _ {s : List ℕ} (F : FileInvariant s) {limit : ℕ} {r : Regs} {vs words
   unfolding step
   returning e ey q = rw (q, ey) (stepped F H e ∙ given-some (λ (z : ℤ). returned z (framesOf s words (r .waiting))) (value-is F H (placed F H e .block)))
 
-  pub return-value : {x y n : ℕ} {v : ℤ} → operationAt s (r .at) ≡ Return x n → y ≡ x → v ≡ getD vs y (pos 0) → r .waiting ≡ 0 → StepResult s limit r vs words (Ended (Value v) (r .extras)) vs words
+  pub return-value : {x y n : ℕ} {v : ℤ} → operationAt s (r .at) ≡ Return x n → y ≡ x → v ≡ getD vs y (pos 0) → r .waiting ≡ 0 → Gives H (Ended (Value v) (r .extras)) vs words
   return-value {v = v} e ey q z = record { outcome = sym (returning e ey q ∙ ap (λ (d : ℕ). returned v (framesOf s words d)) z); held = no-extras (extra-is F H e); kept = refl; sameLength = refl }
 
   pub last-below : ¬ (r .waiting ≡ 0) → r .waiting - 1 < r .waiting
@@ -175,7 +175,7 @@ module _ {s : List ℕ} (F : FileInvariant s) {limit : ℕ} {r : Regs} {vs words
 
   pub return-frame : {x y n : ℕ} {v : ℤ} {h : Head} {us : List ℤ} → operationAt s (r .at) ≡ Return x n → y ≡ x → v ≡ getD vs y (pos 0) → ¬ (r .waiting ≡ 0) → h ≡ headOf (frameAt (r .waiting - 1) words)
       → us ≡ lay 0 (take 32 (drop (frameSize * (r .waiting - 1) + 4) words)) vs
-      → StepResult s limit r vs words (Next (record { function = h .word0; handler = h .word1; at = h .word2; waiting = r .waiting - 1; extras = r .extras })) (set us (h .word3) v) words
+      → Gives H (Next (record { function = h .word0; handler = h .word1; at = h .word2; waiting = r .waiting - 1; extras = r .extras })) (set us (h .word3) v) words
   unfolding stateOf
   return-frame {v = v} {h = h} {us = us} e ey q w eh eu =
       let l : r .waiting - 1 < r .waiting = last-below w in
@@ -194,7 +194,7 @@ module _ {s : List ℕ} (F : FileInvariant s) {limit : ℕ} {r : Regs} {vs words
 
   module _ {x : ℕ} {n : ℤ} {c : Bool} (R : Raises s limit r vs words x n c) where
     pub raise-here : {us : List ℤ} {k : ℕ} {q : Regs} → ¬ (r .handler ≡ 0) → Receives (receiverOf (functionAt s (r .function)) (r .handler)) n vs us k
-        → q ≡ startRegs s (r .function) (r .handler) (r .waiting) (x + k) → StepResult s limit r vs words (Next q) us words
+        → q ≡ startRegs s (r .function) (r .handler) (r .waiting) (x + k) → Gives H (Next q) us words
     unfolding stateOf
     raise-here {us} {k} z E eq =
         let f : ℕ = r .function in
@@ -245,7 +245,7 @@ module _ {s : List ℕ} (F : FileInvariant s) {limit : ℕ} {r : Regs} {vs words
   leaves-as {x} e L = subst (λ (i : ℤ). Leaves s limit r vs words x i) (sym e) L
 
   -- No frame has one.
-  pub raise-uncaught : {x k : ℕ} {n z : ℤ} → Leaves s limit r vs words x n → z ≡ n → k ≡ newestGuarded (framesOf s words (r .waiting)) → k ≡ 0 → StepResult s limit r vs words (Ended (Uncaught z) x) vs words
+  pub raise-uncaught : {x k : ℕ} {n z : ℤ} → Leaves s limit r vs words x n → z ≡ n → k ≡ newestGuarded (framesOf s words (r .waiting)) → k ≡ 0 → Gives H (Ended (Uncaught z) x) vs words
   raise-uncaught {x} {n = n} L e g q =
       let u : Unwinds s n words (r .waiting) 0 = subst (Unwinds s n words (r .waiting)) (sym g ∙ q) (unwinds s n words (r .waiting)) in
       record { outcome = ap (λ (i : ℤ). end (uncaught i)) e ∙ sym (L .outcome ∙ u .0); held = no-extras refl ∙ sym (L .counted ∙ ap (λ (m : ℕ). x + m) (u .1)); kept = refl; sameLength = refl }
@@ -264,7 +264,7 @@ module _ {s : List ℕ} (F : FileInvariant s) {limit : ℕ} {r : Regs} {vs words
 
     pub raise-caught : {x m : ℕ} {n : ℤ} {h : Head} {us ws : List ℤ} {q : Regs} → Leaves s limit r vs words x n → h ≡ headOf (frameAt (k - 1) words)
         → us ≡ lay 0 (take 32 (drop (frameSize * (k - 1) + 4) words)) vs → Receives (receiverOf (functionAt s (h .word0)) (h .word1)) n us ws m
-        → q ≡ startRegs s (h .word0) (h .word1) (k - 1) (x + 1) → StepResult s limit r vs words (Next q) ws words
+        → q ≡ startRegs s (h .word0) (h .word1) (k - 1) (x + 1) → Gives H (Next q) ws words
     unfolding stateOf
     raise-caught {x} {n = n} {h = h} {us = us} L eh eu E eq =
         let l : k - 1 < r .waiting = caught-below in
