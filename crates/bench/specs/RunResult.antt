@@ -10,37 +10,27 @@ use Rattle.semantics.specs.Extras.{extra}
 use Rattle.memory.specs.Frame.{frameSize}
 use Rattle.runs.specs.Stopped.{stoppedAs}
 use Rattle.runs.specs.Words.{GivesState}
-use Rattle.runs.specs.Machine.{Machine, RunStops}
+use Rattle.runs.specs.Machine.{Held, held, Machine, RunStops}
 use Rattle.procedure_layout.specs.Layout.{maxVariables}
 use Rattle.procedure_file.specs.Check.{programOf}
 use Rattle.bench_frames.specs.declared.registers.Regs.{Regs}
-use Rattle.bench_frames.specs.Machine.{stateOf, Invariant}
+use Rattle.bench_frames.specs.Machine.{stateOf, Standing}
 use Rattle.bench.specs.declared.machine.Ran.{Ran}
 
--- What the machine holds.
-pub record Held : Type 0 where
-  pub regs : Regs
-  pub vars : List ℤ
-  pub words : List ℤ
-
-abbrev pub held : Regs → List ℤ → List ℤ → Held
-held r vs words = record { regs = r; vars = vs; words = words }
-
--- The machine is in a state from which it can go on.
-abbrev pub Reached : List ℕ → ℕ → Regs → List ℤ → List ℤ → State → Type 0
-Reached s limit r vs words S = (stateOf s r vs words ≡ S) × Invariant s limit r vs words
+-- What the machine holds stands for a state from which it can go on.
+abbrev pub StandsFor : List ℕ → ℕ → Held Regs → State → Type 0
+StandsFor s limit m S = (stateOf s (m .regs) (m .values) (m .words) ≡ S) × Standing s limit (m .regs) (m .values) (m .words)
 
 -- The bench counts the extras: their sum (`total`).
-abbrev pub machine : List ℕ → ℕ → Machine State Held ℕ
+abbrev pub machine : List ℕ → ℕ → Machine State Regs ℕ
 machine s limit =
     record {
       step = step (programOf s) limit;
       join = λ a b. a + b;
       weight = extra (programOf s);
       last = λ S. 0;
-      Stands = λ m S. Reached s limit (m .regs) (m .vars) (m .words) S;
+      Stands = StandsFor s limit;
       count = λ m. m .regs .extras;
-      words = λ m. m .words;
       bound = frameSize * limit;
       Beside = λ m. Unit {0};
     }
@@ -53,9 +43,9 @@ zeroRegs extras = record { function = 0; handler = 0; at = 0; waiting = 0; extra
 abbrev pub ZeroAtEnd : ℕ → Regs → List ℤ → Type 0
 ZeroAtEnd extras r vs = (r ≡ zeroRegs extras) × (vs ≡ replicate maxVariables (pos 0))
 
--- Where the machine stopped: at an end all is 0; else the current state is reached.
+-- Where the machine stopped: at an end all is 0; else what it holds stands for the current state.
 abbrev pub StoppedAt : List ℕ → ℕ → Regs → List ℤ → List ℤ → Stop State → Type 0
-StoppedAt s limit r vs words stop = GivesState (ZeroAtEnd (r .extras) r vs) (Reached s limit r vs words) stop
+StoppedAt s limit r vs words stop = GivesState (ZeroAtEnd (r .extras) r vs) (StandsFor s limit (held r vs words)) stop
 
 -- Going on from a state with a budget: the rules' run from there, as the machine says.
 pub record RunResult (s : List ℕ) (limit budget : ℕ) (r : Regs) (vs words : List ℤ) (x : Ran) (vs′ words′ : List ℤ) : Type 0 where

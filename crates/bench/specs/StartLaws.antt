@@ -26,12 +26,12 @@ use Rattle.procedure_file.specs.Check.{programOf}
 use Rattle.procedure_file.specs.Places.{startOf}
 use Rattle.procedure_file.specs.FileInvariant.{FileInvariant, Stands}
 use Rattle.bench_frames.specs.declared.registers.Regs.{Regs}
-use Rattle.bench_frames.specs.Machine.{functionAt, varsOf, framesOf, stateOf, FrameStands, Invariant}
+use Rattle.bench_frames.specs.Machine.{functionAt, varsOf, framesOf, stateOf, FrameStands, Standing}
 use Rattle.bench_frames.specs.StateLaws.{length-frames, frames-same}
 use Rattle.bench.specs.declared.machine.Ran.{Ran}
 use Rattle.bench.specs.declared.machine.Answer.{Answer}
-use Rattle.runs.specs.Machine.{StoppedFrom}
-use Rattle.bench.specs.RunResult.{held, machine, ZeroAtEnd, Reached, StoppedAt, RunResult}
+use Rattle.runs.specs.Machine.{held, StoppedFrom}
+use Rattle.bench.specs.RunResult.{StandsFor, machine, ZeroAtEnd, StoppedAt, RunResult}
 use Rattle.bench.specs.Published.{runOf, framesIn, StateGiven, CallFits, RunAnswered}
 
 drop-replicate : {A : Type 0} (n m : ℕ) (x : A) → drop n (replicate m x) ≡ replicate (m - n) x
@@ -84,7 +84,7 @@ module _ {s : List ℕ} (F : FileInvariant s) {f : FunctionNumber} {args : List 
         let t : length (take (length args) args) ≡ length args = ap length (take-length args) in
         ap length ev ∙ (length-lay 0 (take (length args) (drop 0 args)) (replicate 32 (pos 0)) (omega arith) ∙ length-replicate 32 (pos 0))
 
-    pub start-held : Invariant s depth begins vs words
+    pub start-held : Standing s depth begins vs words
     start-held =
         record {
           good = subst (WellFormedState (programOf s)) (sym start-is) (start-wellFormed (programOf s) (F .wellFormed) f there args (C .arguments));
@@ -137,8 +137,8 @@ module _ {s : List ℕ} (F : FileInvariant s) {f : FunctionNumber} {args : List 
           abbrev answer : Answer
           answer = record { verdict = Accepted; stopped = y .stopped; steps = y .steps; extras = y .regs .extras; regs = y .regs; vars = us }
 
-          -- The state reached is still there.
-          still : (S : State) → w ≡ y .regs .waiting → Reached s depth (y .regs) us words₁ S
+          -- The state is still stood for once the other frames are cleared.
+          still : (S : State) → w ≡ y .regs .waiting → StandsFor s depth (held (y .regs) us words₁) S
               → StateGiven s answer words₂ S × (framesOf s words₂ (length (framesIn S)) ≡ framesIn S) × (y .regs .waiting ≡ length (framesIn S))
           unfolding stateOf
           still S q (e, I) =
@@ -163,6 +163,6 @@ module _ {s : List ℕ} (F : FileInvariant s) {f : FunctionNumber} {args : List 
                     ap (λ (k : Result (Unit {0})). tells (record { result = k; extras = y .regs .extras })) (sym tells-so)
                     ∙ ap (λ (n : ℕ). tells (record { result = toldOf (runOf s f args depth budget); extras = n })) (sym (stops .sum) ∙ sum);
                 held =
-                    words-after framesIn (λ fs. framesOf s words₂ (length fs) ≡ fs) (ZeroAtEnd (y .regs .extras) (y .regs) us) (Reached s depth (y .regs) us words₁) (StateGiven s answer words₂)
+                    words-after framesIn (λ fs. framesOf s words₂ (length fs) ≡ fs) (ZeroAtEnd (y .regs .extras) (y .regs) us) (StandsFor s depth (held (y .regs) us words₁)) (StateGiven s answer words₂)
                     clean refl still (runOf s f args depth budget .stop) used reached;
               }

@@ -16,7 +16,7 @@ use Rattle.semantics.specs.StopLaws.{extra-bound}
 use Rattle.runs.specs.declared.End.{End}
 use Rattle.runs.specs.declared.Stopped.the-variants as Stopped
 use Rattle.runs.specs.Stopped.{endAs}
-use Rattle.runs.specs.Machine.{StepAnswer, movedTo, endedWith, deepIn, Counts, Steps, Turn}
+use Rattle.runs.specs.Machine.{held, StepAnswer, movedTo, endedWith, deepIn, Counts, Steps, Turn}
 use Rattle.runs.specs.MachineLaws.{turn-start, on-next, on-ended, on-deep, on-spent}
 use Rattle.procedure_layout.specs.Layout.{maxVariables}
 use Rattle.procedure_file.specs.Check.{programOf}
@@ -24,8 +24,8 @@ use Rattle.procedure_file.specs.FileInvariant.{FileInvariant}
 use Rattle.bench_frames.specs.declared.registers.Regs.{Regs}
 use Rattle.bench_frames.specs.declared.registers.Step.{Step}
 use Rattle.bench_frames.specs.declared.registers.Step.the-variants.{Next, Ended, Deep}
-use Rattle.bench_frames.specs.Machine.{functionAt, stateOf, Invariant, StepResult}
-use Rattle.bench.specs.RunResult.{Held, held, Reached, machine, zeroRegs, RunResult}
+use Rattle.bench_frames.specs.Machine.{functionAt, stateOf, Standing, StepResult}
+use Rattle.bench.specs.RunResult.{StandsFor, machine, zeroRegs, RunResult}
 
 -- No function has more than 24 locals; one that is not there has none.
 locals-bound : {s : List ℕ} → FileInvariant s → (g : ℕ) → functionAt s g .locals ≤ 24
@@ -40,16 +40,16 @@ extra-small : {s : List ℕ} → FileInvariant s → (S : State) → extra (prog
 extra-small {s} F S = extra-bound (programOf s) 24 (omega arith) (locals-bound F) S
 
 -- What a step's answer says; at an end registers, but the extras, and variables are made 0.
-abbrev pub answerOf : Regs → Step → List ℤ → List ℤ → StepAnswer Held
+abbrev pub answerOf : Regs → Step → List ℤ → List ℤ → StepAnswer Regs
 answerOf r (Next q) vs words = movedTo (held q vs words)
 answerOf r (Ended e k) vs words = endedWith (endAs e) (held (zeroRegs k) (replicate maxVariables (pos 0)) words)
 answerOf r Deep vs words = deepIn (held r vs words)
 
 module _ {s : List ℕ} {limit : ℕ} {r : Regs} {vs words : List ℤ} where
-  from : {S : State} → Reached s limit r vs words S → step (programOf s) limit S ≡ step (programOf s) limit (stateOf s r vs words)
+  from : {S : State} → StandsFor s limit (held r vs words) S → step (programOf s) limit S ≡ step (programOf s) limit (stateOf s r vs words)
   from h = ap (step (programOf s) limit) (sym (h .0))
 
-  added-so : {S : State} → Reached s limit r vs words S → r .extras + extra (programOf s) (stateOf s r vs words) ≡ r .extras + extra (programOf s) S
+  added-so : {S : State} → StandsFor s limit (held r vs words) S → r .extras + extra (programOf s) (stateOf s r vs words) ≡ r .extras + extra (programOf s) S
   added-so h = ap (λ (T : State). r .extras + extra (programOf s) T) (h .0)
 
   steps : (x : Step) {vs′ words′ : List ℤ} → StepResult s limit r vs words x vs′ words′ → Steps (machine s limit) (held r vs words) (answerOf r x vs′ words′)
@@ -77,7 +77,7 @@ pub record Loop (s : List ℕ) (limit b : ℕ) (r₀ : Regs) (vs₀ words₀ : L
   pub turn : Turn (machine s limit) b (held r₀ vs₀ words₀) (b - left) (held r vs words)
   pub small : r .extras ≤ r₀ .extras + 25 * (b - left)
 
-pub loop-start : {s : List ℕ} {limit b : ℕ} {r : Regs} {vs words : List ℤ} → Invariant s limit r vs words → Loop s limit b r vs words b r vs words
+pub loop-start : {s : List ℕ} {limit b : ℕ} {r : Regs} {vs words : List ℤ} → Standing s limit r vs words → Loop s limit b r vs words b r vs words
 loop-start {s} {limit} {b} {r} {vs} {words} H =
     let q : 0 ≡ b - b = omega arith in
     record {
@@ -87,7 +87,7 @@ loop-start {s} {limit} {b} {r} {vs} {words} H =
     }
 
 module _ {s : List ℕ} {limit b : ℕ} {r₀ : Regs} {vs₀ words₀ : List ℤ} {left : ℕ} {r : Regs} {vs words : List ℤ} (L : Loop s limit b r₀ vs₀ words₀ left r vs words) where
-  pub loop-held : Invariant s limit r vs words
+  pub loop-held : Standing s limit r vs words
   loop-held = L .turn .some .1 .1
 
   pub extras-small : b < 4294967296 → r₀ .extras < 4294967296 → r .extras < 9223372036854775808

@@ -34,7 +34,7 @@ use Rattle.bench_frames.specs.declared.registers.Regs.{Regs}
 use Rattle.bench_frames.specs.declared.registers.Step.the-variants.{Next, Deep}
 use Rattle.procedure_file.specs.Places.{startOf}
 use Rattle.procedure_file.specs.FileInvariant.{FileInvariant, Stands}
-use Rattle.bench_frames.specs.Machine.{functionAt, varsOf, frameOf, framesOf, stateOf, FrameStands, Invariant, ArgumentsInBounds}
+use Rattle.bench_frames.specs.Machine.{functionAt, varsOf, frameOf, framesOf, stateOf, FrameStands, Standing, ArgumentsInBounds}
 use Rattle.bench_frames.specs.StateLaws.{Gives, length-frames, frames-same, front, frameWith, vars-bound, before, stepped, extra-is, placed, small, in-range, on, moved}
 
 map-same : {A B : Type 0} (f g : A → B) (Q : A → Type 0) (xs : List A) → All Q xs → ((x : A) → Q x → f x ≡ g x) → map f xs ≡ map g xs
@@ -78,7 +78,7 @@ module _ {s : List ℕ} {at k : ℕ} {words : List ℤ} {base : ℕ} (A : Argume
 pub call-named : {o : Operation} {x y g h c n : ℕ} → o ≡ Call x g c n → y ≡ x → h ≡ g → o ≡ Call y h c n
 call-named e p q = rw (p, q) e
 
-module _ {s : List ℕ} (F : FileInvariant s) {limit : ℕ} {r : Regs} {vs words : List ℤ} (H : Invariant s limit r vs words)
+module _ {s : List ℕ} (F : FileInvariant s) {limit : ℕ} {r : Regs} {vs words : List ℤ} (H : Standing s limit r vs words)
     {x g c n : ℕ} (op : operationAt s (r .at) ≡ Call x g c n) where
   abbrev ys : List ℕ
   ys = argumentsAt s (r .at) c

@@ -55,7 +55,7 @@ pub record FrameStands (s : List ℕ) (w : List ℤ) : Type 0 where
   pub place : Stands s (headOf w .word0) (headOf w .word2)
 
 -- What holds between steps.
-pub record Invariant (s : List ℕ) (limit : ℕ) (r : Regs) (vs words : List ℤ) : Type 0 where
+pub record Standing (s : List ℕ) (limit : ℕ) (r : Regs) (vs words : List ℤ) : Type 0 where
   pub good : WellFormedState (programOf s) (stateOf s r vs words)
   pub here : Stands s (r .function) (r .at)
   pub frames : (d : ℕ) → d < r .waiting → FrameStands s (frameAt d words)
@@ -71,15 +71,15 @@ outcomeOf s (Ended e k) vs words = end (endAs e)
 outcomeOf s Deep vs words = tooDeep
 
 -- What holds after a step.
-abbrev pub InvariantAfter : List ℕ → ℕ → Regs → List ℤ → List ℤ → Step → List ℤ → List ℤ → Type 0
-InvariantAfter s limit r vs words (Next q) vs′ words′ = Invariant s limit q vs′ words′ × (q .extras ≡ r .extras + extra (programOf s) (stateOf s r vs words))
-InvariantAfter s limit r vs words (Ended e k) vs′ words′ = k ≡ r .extras + extra (programOf s) (stateOf s r vs words)
-InvariantAfter s limit r vs words Deep vs′ words′ = (vs′ ≡ vs) × (words′ ≡ words)
+abbrev pub StandingAfter : List ℕ → ℕ → Regs → List ℤ → List ℤ → Step → List ℤ → List ℤ → Type 0
+StandingAfter s limit r vs words (Next q) vs′ words′ = Standing s limit q vs′ words′ × (q .extras ≡ r .extras + extra (programOf s) (stateOf s r vs words))
+StandingAfter s limit r vs words (Ended e k) vs′ words′ = k ≡ r .extras + extra (programOf s) (stateOf s r vs words)
+StandingAfter s limit r vs words Deep vs′ words′ = (vs′ ≡ vs) × (words′ ≡ words)
 
 -- One step of the machine is one step of the rules: the promise of every function that takes one.
 pub record StepResult (s : List ℕ) (limit : ℕ) (r : Regs) (vs words : List ℤ) (x : Step) (vs′ words′ : List ℤ) : Type 0 where
   pub outcome : outcomeOf s x vs′ words′ ≡ step (programOf s) limit (stateOf s r vs words)
-  pub held : InvariantAfter s limit r vs words x vs′ words′
+  pub held : StandingAfter s limit r vs words x vs′ words′
   pub kept : drop (frameSize * limit) words′ ≡ drop (frameSize * limit) words
   pub sameLength : length words′ ≡ length words
 

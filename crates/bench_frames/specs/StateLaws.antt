@@ -25,7 +25,7 @@ use Rattle.bench_frames.specs.declared.registers.Regs.{Regs}
 use Rattle.bench_frames.specs.declared.registers.Step.{Step}
 use Rattle.bench_frames.specs.declared.registers.Step.the-variants.{Next}
 use Rattle.procedure_file.specs.FileInvariant.{FileInvariant, Stands}
-use Rattle.bench_frames.specs.Machine.{functionAt, varsOf, frameOf, framesOf, stateOf, FrameStands, Invariant, StepResult}
+use Rattle.bench_frames.specs.Machine.{functionAt, varsOf, frameOf, framesOf, stateOf, FrameStands, Standing, StepResult}
 use Rattle.bench_frames.specs.StandsLaws.{GoesOn, goes-on, rest-is}
 
 pub length-frames : (s : List ℕ) (words : List ℤ) (d : ℕ) → length (framesOf s words d) ≡ d
@@ -55,14 +55,14 @@ abbrev pub frameWith : List ℕ → Head → List ℤ → Frame
 frameWith s h vs = frame (h .word0) (h .word1) (restAt s (h .word2)) (take (varsOf s (h .word0)) vs) (h .word3)
 
 -- What a step gives from where the machine stands.
-abbrev pub Gives : {s : List ℕ} {limit : ℕ} {r : Regs} {vs words : List ℤ} → Invariant s limit r vs words → Step → List ℤ → List ℤ → Type 0
+abbrev pub Gives : {s : List ℕ} {limit : ℕ} {r : Regs} {vs words : List ℤ} → Standing s limit r vs words → Step → List ℤ → List ℤ → Type 0
 Gives {s} {limit} {r} {vs} {words} H x vs′ words′ = StepResult s limit r vs words x vs′ words′
 
 module _ {s : List ℕ} (F : FileInvariant s) where
   pub vars-bound : {f : ℕ} → f < length (programOf s) → varsOf s f ≤ 32
   vars-bound {f} h = let p : functionAt s f .params ≤ 8 = F .counts f h .params in let l : functionAt s f .locals ≤ 24 = F .counts f h .locals in omega arith
 
-  module _ {limit : ℕ} {r : Regs} {vs words : List ℤ} (H : Invariant s limit r vs words) where
+  module _ {limit : ℕ} {r : Regs} {vs words : List ℤ} (H : Standing s limit r vs words) where
     abbrev P : Program
     P = programOf s
 

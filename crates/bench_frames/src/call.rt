@@ -23,7 +23,7 @@ ghost use Rattle.procedure_layout.specs.Layout.{maxVariables, argumentsAt};
 ghost use Rattle.procedure_operations.specs.Operation.{operationAt};
 ghost use Rattle.procedure_file.specs.Check.{programOf};
 ghost use Rattle.procedure_file.specs.Loaded.{Tabled, Loaded};
-ghost use Rattle.bench_frames.specs.Machine.{varsOf, Invariant, StepResult, ArgumentsInBounds};
+ghost use Rattle.bench_frames.specs.Machine.{varsOf, Standing, StepResult, ArgumentsInBounds};
 
 // How many variables function f has.
 fn variables(file: &[u8], starts: &[u16; 2048], f: usize) -> usize
@@ -65,7 +65,7 @@ pub fn call_step(
     next: usize,
 ) -> Step
     requires { ⌜ Loaded (now file) (now starts) ⌝ }
-    requires { ⌜ Invariant (now file) limit r (now vars) (now words) ⌝ }
+    requires { ⌜ Standing (now file) limit r (now vars) (now words) ⌝ }
     requires { ⌜ operationAt (now file) (r .at) ≡ Operation.Call (target .0) (function .0) count next ⌝ }
     requires { ⌜ r .extras < 9223372036854775808 ⌝ }
     ensures { λ x. ⌜ StepResult (now (file .entry)) limit r (now (vars .entry)) (now (words .entry)) x (now (vars .exit)) (now (words .exit)) ⌝ }

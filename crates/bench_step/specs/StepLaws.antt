@@ -27,13 +27,13 @@ use Rattle.bench_frames.specs.declared.registers.Regs.{Regs}
 use Rattle.bench_frames.specs.declared.registers.Step.{Step}
 use Rattle.bench_frames.specs.declared.registers.Step.the-variants.{Next}
 use Rattle.procedure_file.specs.FileInvariant.{FileInvariant, Stands}
-use Rattle.bench_frames.specs.Machine.{functionAt, varsOf, startRegs, framesOf, stateOf, Invariant, StepResult}
+use Rattle.bench_frames.specs.Machine.{functionAt, varsOf, startRegs, framesOf, stateOf, Standing, StepResult}
 use Rattle.bench_frames.specs.StateLaws.{Gives, before, stepped, extra-is, placed, there, on, moved}
 use Rattle.bench_unwind.specs.Raises.{Raises}
 use Rattle.bench_step.specs.Subtracts.{behind, Subtracts}
 use Rattle.bench_unwind.specs.EnterLaws.{value-of, value-is, no-extras, to-label}
 
-module _ {s : List ℕ} (F : FileInvariant s) {limit : ℕ} {r : Regs} {vs words : List ℤ} (H : Invariant s limit r vs words) where
+module _ {s : List ℕ} (F : FileInvariant s) {limit : ℕ} {r : Regs} {vs words : List ℤ} (H : Standing s limit r vs words) where
   abbrev now-vars : List ℤ
   now-vars = take (varsOf s (r .function)) vs
 
@@ -151,7 +151,7 @@ module _ {s : List ℕ} {limit : ℕ} {r : Regs} {vs words : List ℤ} where
   raises-as {k} {z = z} e R = subst (λ (i : ℤ). Raises s limit r vs words k i z) (sym e) R
 
   -- `raise_step` behind it, with variables us, which are those before.
-  pub raise-asked : {us : List ℤ} {k : ℕ} {n v : ℤ} {z : Bool} → us ≡ vs → v ≡ n → Invariant s limit r vs words → Raises s limit r vs words k n z → Invariant s limit r us words × Raises s limit r us words k v z
+  pub raise-asked : {us : List ℤ} {k : ℕ} {n v : ℤ} {z : Bool} → us ≡ vs → v ≡ n → Standing s limit r vs words → Raises s limit r vs words k n z → Standing s limit r us words × Raises s limit r us words k v z
   raise-asked e q H R = rw (e, q) (H, R)
 
   pub raise-done : {us us′ : List ℤ} {x : Step} → us ≡ vs → StepResult s limit r us words x us′ words → StepResult s limit r vs words x us′ words

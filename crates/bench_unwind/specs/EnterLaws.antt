@@ -25,7 +25,7 @@ use Rattle.procedure_file.specs.Places.{startOf, handlerOf, receiverOf}
 use Rattle.procedure_file.specs.FileInvariant.{FileInvariant}
 use Rattle.bench_frames.specs.declared.registers.Regs.{Regs}
 use Rattle.bench_frames.specs.declared.registers.Step.the-variants.{Next}
-use Rattle.bench_frames.specs.Machine.{functionAt, varsOf, startRegs, framesOf, stateOf, Invariant}
+use Rattle.bench_frames.specs.Machine.{functionAt, varsOf, startRegs, framesOf, stateOf, Standing}
 use Rattle.bench_frames.specs.StateLaws.{Gives, place, there, moved}
 use Rattle.procedure_names.specs.Writing.{receiverByte}
 use Rattle.bench_unwind.specs.Raises.{leaving, Receives}
@@ -62,7 +62,7 @@ module _ {s : List ℕ} (F : FileInvariant s) where
       by none w = refl
       by (some x) w = take-set-lt (varsOf s f) us x n w
 
-  module _ {limit : ℕ} {r : Regs} {vs words : List ℤ} (H : Invariant s limit r vs words) where
+  module _ {limit : ℕ} {r : Regs} {vs words : List ℤ} (H : Standing s limit r vs words) where
     abbrev now-vars : List ℤ
     now-vars = take (varsOf s (r .function)) vs
 

@@ -36,7 +36,7 @@ use Rattle.bench_frames.specs.declared.registers.Regs.{Regs}
 use Rattle.bench_frames.specs.declared.registers.Step.the-variants.{Next, Ended}
 use Rattle.runs.specs.declared.End.the-variants.{Value, Uncaught}
 use Rattle.procedure_file.specs.FileInvariant.{FileInvariant, Stands}
-use Rattle.bench_frames.specs.Machine.{functionAt, varsOf, startRegs, frameOf, framesOf, stateOf, Invariant}
+use Rattle.bench_frames.specs.Machine.{functionAt, varsOf, startRegs, frameOf, framesOf, stateOf, Standing}
 use Rattle.bench_frames.specs.StateLaws.{Gives, length-frames, front, frameWith, vars-bound, stepped, extra-is, place, placed, there, moved}
 use Rattle.bench_unwind.specs.Raises.{isZero, leaving, Receives, Leaves, Raises}
 use Rattle.bench_unwind.specs.Guarded.{newestGuardedIn, FramesFit}
@@ -53,7 +53,7 @@ waits s words d (suc w) l a = by (ℕ-discrete d w) (λ (k : d < w). waits s wor
     by (no e) more = more (omega (arith, l, e))
 
 -- The waiting frames lie in the words, and their heads can be read.
-pub frames-fit : {s : List ℕ} {limit : ℕ} {r : Regs} {vs words : List ℤ} → Invariant s limit r vs words → FramesFit frameSize words (r .waiting)
+pub frames-fit : {s : List ℕ} {limit : ℕ} {r : Regs} {vs words : List ℤ} → Standing s limit r vs words → FramesFit frameSize words (r .waiting)
 frames-fit {limit = limit} {r = r} {words = words} H =
     let m : r .waiting ≤ limit = H .waiting in let k : frameSize * limit ≤ length words = H .room in record { headRoom = omega arith; room = omega arith; heads = λ d l. H .frames d l .head }
 
@@ -101,7 +101,7 @@ unwound-guarded : (P : Program) (n : ℤ) (f k : ℕ) (b : Block) (vs : List ℤ
 unwound-guarded P n f zero b vs x fs l = absurd (omega arith)
 unwound-guarded P n f (suc k) b vs x fs l = refl
 
-module _ {s : List ℕ} (F : FileInvariant s) {limit : ℕ} {r : Regs} {vs words : List ℤ} (H : Invariant s limit r vs words) where
+module _ {s : List ℕ} (F : FileInvariant s) {limit : ℕ} {r : Regs} {vs words : List ℤ} (H : Standing s limit r vs words) where
   -- What is known of a waiting frame and of its head h.
   pub record FrameSafe (d : ℕ) (h : Head) : Type 0 where
     pub function : h .word0 < length (programOf s)

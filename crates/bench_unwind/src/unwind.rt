@@ -22,7 +22,7 @@ ghost use Rattle.procedure_operations.specs.Operation.{operationAt};
 ghost use Rattle.procedure_file.specs.Check.{programOf};
 ghost use Rattle.procedure_file.specs.Loaded.{Tabled, Loaded};
 ghost use Rattle.procedure_file.specs.FileInvariant.{FileInvariant};
-ghost use Rattle.bench_frames.specs.Machine.{functionAt, startRegs, framesOf, Invariant, StepResult};
+ghost use Rattle.bench_frames.specs.Machine.{functionAt, startRegs, framesOf, Standing, StepResult};
 ghost use Rattle.parsing.specs.Fields.{versionOf};
 ghost use Rattle.procedure_file.specs.Places.{receiverOf};
 ghost use Rattle.bench_unwind.specs.Guarded.{newestGuardedIn, FramesFit};
@@ -63,7 +63,7 @@ pub fn return_step(
     next: usize,
 ) -> Step
     requires { ⌜ FileInvariant (now file) ⌝ }
-    requires { ⌜ Invariant (now file) limit r (now vars) (now words) ⌝ }
+    requires { ⌜ Standing (now file) limit r (now vars) (now words) ⌝ }
     requires { ⌜ operationAt (now file) (r .at) ≡ Operation.Return (variable .0) next ⌝ }
     ensures { λ x. ⌜ StepResult (now (file .entry)) limit r (now (vars .entry)) (now (words .entry)) x (now (vars .exit)) (now (words .entry)) ⌝ }
 {
@@ -155,7 +155,7 @@ fn caught_step(
     k: usize,
 ) -> Step
     requires { ⌜ Loaded (now file) (now starts) ⌝ }
-    requires { ⌜ Invariant (now file) limit r (now vars) (now words) ⌝ }
+    requires { ⌜ Standing (now file) limit r (now vars) (now words) ⌝ }
     requires { ⌜ Leaves (now file) limit r (now vars) (now words) extras number ⌝ }
     requires { ⌜ extras ≤ 9223372036854775809 ⌝ }
     requires { ⌜ (k ≡ newestGuarded (framesOf (now file) (now words) (r .waiting))) × (0 < k) ⌝ }
@@ -185,7 +185,7 @@ pub fn raise_step(
     zero: bool,
 ) -> Step
     requires { ⌜ Loaded (now file) (now starts) ⌝ }
-    requires { ⌜ Invariant (now file) limit r (now vars) (now words) ⌝ }
+    requires { ⌜ Standing (now file) limit r (now vars) (now words) ⌝ }
     requires { ⌜ Raises (now file) limit r (now vars) (now words) extras number zero ⌝ }
     requires { ⌜ extras ≤ 9223372036854775808 ⌝ }
     ensures { λ x. ⌜ StepResult (now (file .entry)) limit r (now (vars .entry)) (now (words .entry)) x (now (vars .exit)) (now (words .entry)) ⌝ }
