@@ -44,8 +44,8 @@ abbrev pub ZeroAtEnd : ℕ → Regs → List ℤ → Type 0
 ZeroAtEnd extras r vs = (r ≡ zeroRegs extras) × (vs ≡ replicate maxVariables (pos 0))
 
 -- Where the machine stopped: at an end all is 0; else what it holds stands for the current state.
-abbrev pub StoppedAt : List ℕ → ℕ → Regs → List ℤ → List ℤ → Stop State → Type 0
-StoppedAt s limit r vs words stop = GivesState (ZeroAtEnd (r .extras) r vs) (StandsFor s limit (held r vs words)) stop
+abbrev pub StoppedAt : List ℕ → ℕ → Held Regs → Stop State → Type 0
+StoppedAt s limit m stop = GivesState (ZeroAtEnd (m .regs .extras) (m .regs) (m .values)) (StandsFor s limit m) stop
 
 -- Going on from a state with a budget: the rules' run from there, as the machine says.
 pub record RunResult (s : List ℕ) (limit budget : ℕ) (r : Regs) (vs words : List ℤ) (x : Ran) (vs′ words′ : List ℤ) : Type 0 where

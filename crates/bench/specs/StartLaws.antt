@@ -117,8 +117,8 @@ module _ {s : List ℕ} (F : FileInvariant s) {f : FunctionNumber} {args : List 
       tells-so : toldOf (runOf s f args depth budget) ≡ record { stop = stoppedAs (y .stopped); steps = y .steps }
       tells-so = ap toldOf (sym ran) ∙ stops .tells
 
-      reached : StoppedAt s depth (y .regs) us words₁ (runOf s f args depth budget .stop)
-      reached = subst (λ (b : Result State). StoppedAt s depth (y .regs) us words₁ (b .stop)) ran (stops .state)
+      reached : StoppedAt s depth (held (y .regs) us words₁) (runOf s f args depth budget .stop)
+      reached = subst (λ (b : Result State). StoppedAt s depth (held (y .regs) us words₁) (b .stop)) ran (stops .state)
 
       module _ {w : ℕ} (ew : w ≡ inUse (stoppedAs (y .stopped)) (y .regs .waiting)) where
         used : w ≡ inUse (runOf s f args depth budget .stop) (y .regs .waiting)

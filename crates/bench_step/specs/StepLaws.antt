@@ -49,6 +49,9 @@ module _ {s : List ℕ} (F : FileInvariant s) {limit : ℕ} {r : Regs} {vs words
       (moved F H (stepped F H e ∙ (m ∙ ap (λ (us : List ℤ). next (state (r .function) (r .handler) (restAt s n) us now-frames)) (sym (take-set-lt (varsOf s (r .function)) vs x u lx))))
       st (H .frames) (length-set vs x u ∙ H .variables) refl refl (no-extras (extra-is F H e ∙ z)))
 
+  abbrev Raising : ℕ → ℤ → Bool → Type 0
+  Raising k n z = Raises s limit r vs words k n z
+
   abbrev value : ℕ → ℤ
   value y = getD vs y (pos 0)
 
@@ -82,7 +85,7 @@ module _ {s : List ℕ} (F : FileInvariant s) {limit : ℕ} {r : Regs} {vs words
       let D = judged e ey ez ea eb ec et in assigned e ex (ev ∙ minus-same a b (sym ec ∙ et)) eq (placed F H e .block .0) (on F H e) (D .1) (D .0)
 
   pub difference-raises : {x y z y′ z′ n : ℕ} {a b : ℤ} {c : Bool} → operationAt s (r .at) ≡ Difference x y z n → y′ ≡ y → z′ ≡ z → a ≡ value y′ → b ≡ value z′ → c ≡ inRange (a -ℤ b) → c ≡ false
-      → Raises s limit r vs words (r .extras + 1) (pos 0) true
+      → Raising (r .extras + 1) (pos 0) true
   difference-raises e ey ez ea eb ec et =
       let D = judged e ey ez ea eb ec et in
       let m = raiseExtra (programOf s) (r .function) (r .handler) none now-frames in
@@ -119,14 +122,14 @@ module _ {s : List ℕ} (F : FileInvariant s) {limit : ℕ} {r : Regs} {vs words
       to-label F H (chosen c′ (w .2) (w .3)) (stepped F H e ∙ rw (value-is F H (w .0), value-is F H (w .1), k)) (ap (λ (j : ℕ). r .extras + j) (sym (extra-is F H e))) eq
 
   -- 8 raise
-  pub raise-raises : numberOf (operationAt s (r .at)) ≡ 8 → Raises s limit r vs words (r .extras) (pos 0) true
+  pub raise-raises : numberOf (operationAt s (r .at)) ≡ 8 → Raising (r .extras) (pos 0) true
   unfolding step
   raise-raises e =
       let o = raise-known (operationAt s (r .at)) e in
       record { named = none; zeroIs = refl; outcome = stepped F H (o .1); counted = ap (λ (k : ℕ). r .extras + k) (extra-is F H (o .1)) }
 
   -- 9 raise of a variable's value
-  pub value-raises : {x a n : ℕ} {v : ℤ} → operationAt s (r .at) ≡ RaiseValue x n → a ≡ x → v ≡ value a → Raises s limit r vs words (r .extras) v false
+  pub value-raises : {x a n : ℕ} {v : ℤ} → operationAt s (r .at) ≡ RaiseValue x n → a ≡ x → v ≡ value a → Raising (r .extras) v false
   unfolding step
   value-raises {x} {v = v} e ea ev =
       let q : v ≡ value x = ev ∙ ap value ea in

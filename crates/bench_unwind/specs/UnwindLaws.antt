@@ -192,6 +192,9 @@ module _ {s : List ℕ} (F : FileInvariant s) {limit : ℕ} {r : Regs} {vs words
   pub here-safe : ¬ (r .handler ≡ 0) → (r .function < length (programOf s)) × IsLabel (length (functionAt s (r .function) .blocks)) (r .handler)
   here-safe z = (there F H, (omega (arith, z), place F H .handler))
 
+  abbrev Leaving : ℕ → ℤ → Type 0
+  Leaving x n = Leaves s limit r vs words x n
+
   module _ {x : ℕ} {n : ℤ} {c : Bool} (R : Raises s limit r vs words x n c) where
     pub raise-here : {us : List ℤ} {k : ℕ} {q : Regs} → ¬ (r .handler ≡ 0) → Receives (receiverOf (functionAt s (r .function)) (r .handler)) n vs us k
         → q ≡ startRegs s (r .function) (r .handler) (r .waiting) (x + k) → Gives H (Next q) us words
@@ -221,7 +224,7 @@ module _ {s : List ℕ} (F : FileInvariant s) {limit : ℕ} {r : Regs} {vs words
         binding (suc m) h = add-zero (one (receiverAt (functionAt s (r .function)) (suc m)))
 
     -- Without one it leaves the function.
-    pub raise-leaves : {k : ℕ} → r .handler ≡ 0 → k ≡ leaving (versionOf s) c → Leaves s limit r vs words (x + k) n
+    pub raise-leaves : {k : ℕ} → r .handler ≡ 0 → k ≡ leaving (versionOf s) c → Leaving (x + k) n
     unfolding leaving
     raise-leaves {k} z e =
         record {
@@ -241,11 +244,11 @@ module _ {s : List ℕ} (F : FileInvariant s) {limit : ℕ} {r : Regs} {vs words
             by false = refl
         bound (some y) h = sym h
 
-  pub leaves-as : {x : ℕ} {n z : ℤ} → z ≡ n → Leaves s limit r vs words x n → Leaves s limit r vs words x z
-  leaves-as {x} e L = subst (λ (i : ℤ). Leaves s limit r vs words x i) (sym e) L
+  pub leaves-as : {x : ℕ} {n z : ℤ} → z ≡ n → Leaving x n → Leaving x z
+  leaves-as {x} e L = subst (λ (i : ℤ). Leaving x i) (sym e) L
 
   -- No frame has one.
-  pub raise-uncaught : {x k : ℕ} {n z : ℤ} → Leaves s limit r vs words x n → z ≡ n → k ≡ newestGuarded (framesOf s words (r .waiting)) → k ≡ 0 → Gives H (Ended (Uncaught z) x) vs words
+  pub raise-uncaught : {x k : ℕ} {n z : ℤ} → Leaving x n → z ≡ n → k ≡ newestGuarded (framesOf s words (r .waiting)) → k ≡ 0 → Gives H (Ended (Uncaught z) x) vs words
   raise-uncaught {x} {n = n} L e g q =
       let u : Unwinds s n words (r .waiting) 0 = subst (Unwinds s n words (r .waiting)) (sym g ∙ q) (unwinds s n words (r .waiting)) in
       record { outcome = ap (λ (i : ℤ). end (uncaught i)) e ∙ sym (L .outcome ∙ u .0); held = no-extras refl ∙ sym (L .counted ∙ ap (λ (m : ℕ). x + m) (u .1)); kept = refl; sameLength = refl }
@@ -262,7 +265,7 @@ module _ {s : List ℕ} (F : FileInvariant s) {limit : ℕ} {r : Regs} {vs words
         → (h .word0 < length (programOf s)) × IsLabel (length (functionAt s (h .word0) .blocks)) (h .word1)
     caught-label eh = let S = frame-safe caught-below eh in (S .function, (rw eh (unwinding (pos 0) .1), S .handler))
 
-    pub raise-caught : {x m : ℕ} {n : ℤ} {h : Head} {us ws : List ℤ} {q : Regs} → Leaves s limit r vs words x n → h ≡ headOf (frameAt (k - 1) words)
+    pub raise-caught : {x m : ℕ} {n : ℤ} {h : Head} {us ws : List ℤ} {q : Regs} → Leaving x n → h ≡ headOf (frameAt (k - 1) words)
         → us ≡ lay 0 (take 32 (drop (frameSize * (k - 1) + 4) words)) vs → Receives (receiverOf (functionAt s (h .word0)) (h .word1)) n us ws m
         → q ≡ startRegs s (h .word0) (h .word1) (k - 1) (x + 1) → Gives H (Next q) ws words
     unfolding stateOf
