@@ -1,6 +1,6 @@
 -- Document 01's starred cases ('The test procedure and its neighbours'), as one table under one theorem, by computation of the rules
 -- from the bytes of the files. Steps are bench, controller. Document 02, Slip 2: "The wrap case becomes: raises." Rows of version 2 (Slip 7) follow.
-use Prim.Native.Nat.{ℕ, _+_, _*_}
+use Prim.Native.Nat.{ℕ, _*_}
 use mathlib.Core.Path.{_≡_, refl}
 use mathlib.Core.List.{List, [], _∷_, _++_}
 use lib.IntN.{ℤ, pos}

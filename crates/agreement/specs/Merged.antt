@@ -7,12 +7,11 @@ use mathlib.Core.List.{List}
 use lib.IntN.{ℤ}
 use lib.ListN.{length}
 use Rattle.semantics.specs.Program.{FunctionNumber, functionOf}
-use Rattle.semantics.specs.Run.{Forever}
+use Rattle.semantics.specs.Run.{Forever, summary}
 use Rattle.semantics.specs.Merge.{RunsAlike}
 use Rattle.parsing.specs.Parser.{accepted}
 use Rattle.parsing.specs.Bytes.{Bytes}
 use Rattle.target_tags.specs.Tag.{fileLimit}
-use Rattle.runs.specs.Tells.{toldOf}
 use Rattle.procedure_file.specs.Check.{programOf}
 use Rattle.translator.specs.Translated.{translationOf}
 use Rattle.bench.specs.Published.{benchTells}
@@ -27,7 +26,7 @@ pub record AsBefore (s : List ℕ) (f : FunctionNumber) (r : List ℕ) (g : Func
   -- .. and so does the controller, each on its file's translation, at that function's entry: it ends alike in as many steps, stops deep
   -- alike, is spent alike, and runs on for ever alike.
   pub controllerRuns : length (translationOf r) ≤ fileLimit → (args : List ℤ) → length args ≡ functionOf (programOf s) f .params → (depth : ℕ)
-      → ((budget : ℕ) → toldOf (translationRun r g args depth budget) ≡ toldOf (translationRun s f args depth budget))
+      → ((budget : ℕ) → summary (translationRun r g args depth budget) ≡ summary (translationRun s f args depth budget))
       × (Forever (translationRun r g args depth) ↔ Forever (translationRun s f args depth))
   -- The machines answer alike, whatever the call: the same end, steps and extras, or the same refusal.
   pub benchAnswers : (args : List ℤ) (depth budget words : ℕ) → benchTells r g args depth budget words ≡ benchTells s f args depth budget words

@@ -6,7 +6,7 @@ use mathlib.Core.List.{List}
 use lib.IntN.{ℤ, pos}
 use lib.ListN.{length, replicate, length-replicate}
 use Rattle.semantics.specs.Program.{FunctionNumber, Function, Program, functionOf}
-use Rattle.semantics.specs.Run.{Result}
+use Rattle.semantics.specs.Run.{Result, summary}
 use Rattle.semantics.specs.Controller.{targetOf}
 use Rattle.semantics.specs.Translation.{translate}
 use Rattle.semantics.specs.Merge.{merged, RunsAlike}
@@ -18,13 +18,13 @@ use Rattle.parsing.specs.VerdictLaws.{or-accepted}
 use Rattle.memory.specs.Frame.{frameSize}
 use Rattle.memory.specs.Call.{argumentsVerdict, callVerdict}
 use Rattle.memory.specs.CallLaws.{start-fits, fitting-arguments, fitting-call}
-use Rattle.runs.specs.Tells.{tellsBy, toldOf}
+use Rattle.runs.specs.Tells.{byVerdict}
 use Rattle.procedure_file.specs.Check.{checkOf, programOf}
 use Rattle.procedure_file.specs.AcceptedLaws.{is-writing}
 use Rattle.target_file.specs.Check as Target
 use Rattle.target_file.specs.Writing.{writing}
 use Rattle.translator.specs.Translated.{translationOf}
-use Rattle.bench.specs.Published.{runTells, benchVerdict, benchTells}
+use Rattle.bench.specs.Published.{runSummary, benchVerdict, benchTells}
 use Rattle.controller.specs.Published.{controllerVerdict, controllerTells}
 use Rattle.merge.specs.Merged.{mergedOf, filesVerdict, mergeVerdict, MergedFile}
 use Rattle.merge.specs.AcceptedLaws.{merges-accepted}
@@ -40,8 +40,8 @@ record Start (s : List ℕ) (f : FunctionNumber) : Type 0 where
   there : f < length (programOf s)
 
 -- What a call tells depends on its answer only where it is accepted.
-tells-alike : {A : Type 0} (v : Verdict) (a b : A) → (v ≡ accepted → a ≡ b) → tellsBy v a ≡ tellsBy v b
-tells-alike accepted a b e = ap (tellsBy accepted) (e refl)
+tells-alike : {A : Type 0} (v : Verdict) (a b : A) → (v ≡ accepted → a ≡ b) → byVerdict v a ≡ byVerdict v b
+tells-alike accepted a b e = ap (byVerdict accepted) (e refl)
 tells-alike (refused number place) a b e = refl
 
 stop-of : {a b : Result (Unit {0})} → a ≡ b → a .stop ≡ b .stop
@@ -76,7 +76,7 @@ module _ {s r : List ℕ} {f g : FunctionNumber} (S : Start s f) (R : Start r g)
     (shorter : length (translationOf s) ≤ length (translationOf r))
     (alike : (args : List ℤ) → length args ≡ functionOf (programOf s) f .params → RunsAlike (programOf s) f (programOf r) g args) where
   controllers : length (translationOf r) ≤ 65535 → (args : List ℤ) → length args ≡ functionOf (programOf s) f .params → (depth budget : ℕ)
-      → toldOf (translationRun r g args depth budget) ≡ toldOf (translationRun s f args depth budget)
+      → summary (translationRun r g args depth budget) ≡ summary (translationRun s f args depth budget)
   controllers fits args la depth budget =
       let e = controllers-alike (paired S (omega arith) args la depth) (paired R fits args (la ∙ sym same) depth) (alike args la) budget in
       λ i. record { stop = e .0 i; steps = e .1 i }
@@ -86,10 +86,10 @@ module _ {s r : List ℕ} {f g : FunctionNumber} (S : Start s f) (R : Start r g)
   bench-answers args depth budget words =
       let v = callVerdict f (length (programOf s)) (argumentsVerdict (length args) (functionOf (programOf s) f .params)) frameSize depth words in
       rw (R .isAccepted, S .isAccepted, call-alike (length args) frameSize depth words (S .there) (R .there) same)
-      (tells-alike v (runTells r g args depth budget) (runTells s f args depth budget) (λ ok. told (alike args (fitting-arguments _ _ (fitting-call _ _ _ _ _ _ ok .1)))))
+      (tells-alike v (runSummary r g args depth budget) (runSummary s f args depth budget) (λ ok. same-summary (alike args (fitting-arguments _ _ (fitting-call _ _ _ _ _ _ ok .1)))))
     where
-      told : RunsAlike (programOf s) f (programOf r) g args → runTells r g args depth budget ≡ runTells s f args depth budget
-      told E = λ i. record { result = record { stop = E .stop depth budget i; steps = E .steps depth budget i }; extras = E .extras depth budget i }
+      same-summary : RunsAlike (programOf s) f (programOf r) g args → runSummary r g args depth budget ≡ runSummary s f args depth budget
+      same-summary E = λ i. record { result = record { stop = E .stop depth budget i; steps = E .steps depth budget i }; extras = E .extras depth budget i }
 
   controller-answers : length (translationOf r) ≤ 65535 → (args : List ℤ) (depth budget words : ℕ)
       → controllerTells (translationOf r) (entryOf r g) args depth budget words ≡ controllerTells (translationOf s) (entryOf s f) args depth budget words
@@ -99,7 +99,7 @@ module _ {s r : List ℕ} {f g : FunctionNumber} (S : Start s f) (R : Start r g)
       let E′ = entry R fits in
       let v = callVerdict (entryOf s f) (length (Target.codeOf (translationOf s))) (argumentsVerdict (length args) (targetOf (Target.codeOf (translationOf s)) (entryOf s f) .params)) frameSize depth words in
       rw (E .0, E′ .0, call-alike (length args) frameSize depth words (E .1) (E′ .1) (E′ .2 ∙ (same ∙ sym (E .2))))
-      (tells-alike v (toldOf (translationRun r g args depth budget)) (toldOf (translationRun s f args depth budget))
+      (tells-alike v (summary (translationRun r g args depth budget)) (summary (translationRun s f args depth budget))
       (λ ok. controllers fits args (fitting-arguments _ _ (fitting-call _ _ _ _ _ _ ok .1) ∙ E .2) depth budget))
 
   as-before : AsBefore s f r g

@@ -5,7 +5,7 @@ use mathlib.Core.List.{List, _++_}
 use lib.IntN.{ℤ}
 use lib.ListN.{length, drop}
 use Rattle.semantics.specs.Program.{FunctionNumber, functionOf}
-use Rattle.semantics.specs.Run.{Result}
+use Rattle.semantics.specs.Run.{Result, summary}
 use Rattle.semantics.specs.Controller.{Control}
 use Rattle.semantics.specs.Statement.{StopsMatch}
 use Rattle.parsing.specs.declared.Refusal.{Refusal}
@@ -15,7 +15,7 @@ use Rattle.parsing.specs.Bytes.{Bytes}
 use Rattle.memory.specs.Frame.{frameSize}
 use Rattle.memory.specs.Call.{maxDepth, startVerdict, argumentsVerdict, wordsVerdict}
 use Rattle.target_tags.specs.Tag.{fileLimit}
-use Rattle.runs.specs.Tells.{Tells, tells, tellsBy, toldOf, ChangedBy}
+use Rattle.runs.specs.Tells.{Tells, tells, byVerdict, ChangedBy}
 use Rattle.procedure_file.specs.Check.{checkOf, programOf}
 use Rattle.translator.specs.Translated.{translationOf, roomVerdict}
 use Rattle.bench.specs.Published as Bench
@@ -40,35 +40,35 @@ sidesVerdict s f given depth frames room records =
 -- ── What is told ────────────────────────────────────────────────────────────────────────────────
 
 -- What an accepted call tells: the bytes of the translation, and what each machine tells.
-pub record Told : Type 0 where
+pub record SidesSummary : Type 0 where
   pub target : ℕ
-  pub bench : Bench.Told
+  pub bench : Bench.BenchSummary
   pub controller : Result (Unit {0})
 
 -- What an answer says.
-abbrev pub saidBy : Sides → Told
-saidBy a = record { target = a .target; bench = Bench.saidBy (a .bench); controller = Controller.saidBy (a .controller) }
+abbrev pub summaryOf : Sides → SidesSummary
+summaryOf a = record { target = a .target; bench = Bench.summaryOf (a .bench); controller = Controller.summaryOf (a .controller) }
 
-abbrev pub sidesTold : Sides → Tells Told
-sidesTold a = tellsBy (verdictOf (a .verdict)) (saidBy a)
+abbrev pub meaning : Sides → Tells SidesSummary
+meaning a = byVerdict (verdictOf (a .verdict)) (summaryOf a)
 
 -- The controller's run.
 abbrev pub controllerRun : List ℕ → FunctionNumber → List ℤ → ℕ → ℕ → Result Control
-controllerRun s f args depth budget = translationRun s f args depth (controllerBudget (Bench.runTells s f args depth budget))
+controllerRun s f args depth budget = translationRun s f args depth (controllerBudget (Bench.runSummary s f args depth budget))
 
 -- What both runs tell.
-abbrev pub runsTell : List ℕ → FunctionNumber → List ℤ → ℕ → ℕ → Told
-runsTell s f args depth budget =
+abbrev pub runsSummary : List ℕ → FunctionNumber → List ℤ → ℕ → ℕ → SidesSummary
+runsSummary s f args depth budget =
     record {
       target = length (translationOf s);
-      bench = Bench.runTells s f args depth budget;
-      controller = toldOf (controllerRun s f args depth budget);
+      bench = Bench.runSummary s f args depth budget;
+      controller = summary (controllerRun s f args depth budget);
     }
 
 -- What the call tells of a file, its start function, arguments, a depth limit, a budget, and so much lent memory.
-unfoldable pub sidesTell : List ℕ → FunctionNumber → List ℤ → (depth budget frames room records : ℕ) → Tells Told
+unfoldable pub sidesTell : List ℕ → FunctionNumber → List ℤ → (depth budget frames room records : ℕ) → Tells SidesSummary
 sidesTell s f args depth budget frames room records =
-    tellsBy (sidesVerdict s f (length args) depth frames room records) (runsTell s f args depth budget)
+    byVerdict (sidesVerdict s f (length args) depth frames room records) (runsSummary s f args depth budget)
 
 -- ── What the lent memory holds, and what is claimed of the two answers ──────────────────────────
 
@@ -82,7 +82,7 @@ pub record Memory : Type 0 where
 -- match, and controller steps = bench steps + extras.
 pub record RanTogether (s : List ℕ) (f : FunctionNumber) (args : List ℤ) (depth budget : ℕ) (a : Sides) (frames frames′ records records′ : List ℤ) : Type 0 where
   pub frameWords : Bench.RunWords s f args depth budget (a .bench) frames frames′
-  pub recordWords : Controller.RunWords (translationOf s) (entryOf s f) args depth (controllerBudget (Bench.runTells s f args depth budget)) (a .controller) records records′
+  pub recordWords : Controller.RunWords (translationOf s) (entryOf s f) args depth (controllerBudget (Bench.runSummary s f args depth budget)) (a .controller) records records′
   pub stops : StopsMatch (programOf s) (Bench.runOf s f args depth budget .stop) (controllerRun s f args depth budget .stop)
   pub counted : a .controller .steps ≡ a .bench .steps + a .bench .extras
   -- "That neither run is then refused is part of the claim."
@@ -118,5 +118,5 @@ pub record CallFits (s : List ℕ) (f : FunctionNumber) (args : List ℤ) (depth
 
 -- What both runs come to.
 pub record MachinesRan (s : List ℕ) (f : FunctionNumber) (args : List ℤ) (depth budget : ℕ) (a : Sides) (frames frames′ records records′ : List ℤ) : Type 0 where
-  pub said : sidesTold a ≡ tells (runsTell s f args depth budget)
+  pub answer : meaning a ≡ tells (runsSummary s f args depth budget)
   pub together : RanTogether s f args depth budget a frames frames′ records records′

@@ -8,7 +8,7 @@ use lib.ListN.{length, take, drop, length-append}
 use lib.Seq.{take-append-seam}
 use Rattle.semantics.specs.Program.{FunctionNumber, functionOf}
 use Rattle.semantics.specs.SlotCount.{UsesSlots, slotsUsed}
-use Rattle.semantics.specs.Run.{Stop, ended, spent, deep, broken, Result, oneMoreIfDeep}
+use Rattle.semantics.specs.Run.{Stop, ended, spent, deep, broken, Result, oneMoreIfDeep, summary}
 use Rattle.parsing.specs.declared.Refusal.{Refusal}
 use Rattle.parsing.specs.declared.Checked.{Checked}
 use Rattle.parsing.specs.declared.Checked.the-variants.{Accepted, Refused}
@@ -19,7 +19,7 @@ use Rattle.memory.specs.Frame.{frameSize}
 use Rattle.memory.specs.Call.{startVerdict, argumentsVerdict, wordsVerdict}
 use Rattle.memory.specs.CallLaws.{fitting-start, fitting-arguments, fitting-words}
 use Rattle.runs.specs.Stopped.{stoppedAs}
-use Rattle.runs.specs.Tells.{tells, toldOf}
+use Rattle.runs.specs.Tells.{tells}
 use Rattle.runs.specs.TellsLaws.{answered}
 use Rattle.runs.specs.CallLaws.{Promised, promised-refused, promised-ran}
 use Rattle.runs.specs.OutputLaws.{lay-front}
@@ -36,7 +36,7 @@ use Rattle.controller.specs.Published as Controller
 use Rattle.controller_records.specs.Machine.{SlotsKept}
 use Rattle.agreement.specs.declared.Sides.{Sides}
 use Rattle.agreement.specs.Statement.{entryOf, controllerBudget, Claim}
-use Rattle.agreement.specs.Sides.{callVerdict, sidesVerdict, Told, saidBy, controllerRun, runsTell, sidesTell, Memory, Ran, SidesMemory, refusedSides, CallFits, MachinesRan}
+use Rattle.agreement.specs.Sides.{callVerdict, sidesVerdict, SidesSummary, summaryOf, controllerRun, runsSummary, sidesTell, Memory, Ran, refusedSides, CallFits, MachinesRan}
 use Rattle.agreement.specs.Theorem.{few-steps, translation-slots, ran-alike, stops-match, files-agree}
 
 one-at-most : {S : Type 0} (o : Stop S) → oneMoreIfDeep o ≤ 1
@@ -67,50 +67,50 @@ module _ {s : List ℕ} {f : FunctionNumber} {args : List ℤ} {depth : ℕ} {fr
 
   -- The bench's answer.
   module _ {budget : ℕ} {a : BenchAnswer.Answer} {frames′ : List ℤ} (B : Bench.RunAnswered s f args depth budget a frames frames′) where
-    bench-said : (a .verdict ≡ Accepted) × (Bench.saidBy a ≡ Bench.runTells s f args depth budget)
-    bench-said = answered (a .verdict) (Bench.saidBy a) (Bench.runTells s f args depth budget) (B .said)
+    bench-summary : (a .verdict ≡ Accepted) × (Bench.summaryOf a ≡ Bench.runSummary s f args depth budget)
+    bench-summary = answered (a .verdict) (Bench.summaryOf a) (Bench.runSummary s f args depth budget) (B .answer)
 
     pub sum-small : budget < 4294967296 → a .steps + a .extras < 9223372036854775807
     sum-small h =
-        subst (λ (t : Bench.Told). t .result .steps + t .extras < 9223372036854775807) (sym (bench-said .1))
+        subst (λ (t : Bench.BenchSummary). t .result .steps + t .extras < 9223372036854775807) (sym (bench-summary .1))
         (few-steps s (R .bytes) (R .isAccepted) f args depth budget h)
 
     module _ {m : ℕ} (em : m ≡ oneMoreIfDeep (stoppedAs (a .stopped))) where
       pub more-small : m ≤ 1
       more-small = subst (λ (k : ℕ). k ≤ 1) (sym em) (one-at-most (stoppedAs (a .stopped)))
 
-      budget-told : a .steps + a .extras + m ≡ controllerBudget (Bench.runTells s f args depth budget)
+      budget-is : a .steps + a .extras + m ≡ controllerBudget (Bench.runSummary s f args depth budget)
       unfolding controllerBudget
-      budget-told = ap (λ (k : ℕ). a .steps + a .extras + k) em ∙ ap controllerBudget (bench-said .1)
+      budget-is = ap (λ (k : ℕ). a .steps + a .extras + k) em ∙ ap controllerBudget (bench-summary .1)
 
       -- Both answers.
       module _ {target : List ℕ} {g n : ℕ} {c : ControllerAnswer.Answer} {records′ : List ℤ} (it : target ≡ translationOf s) (ig : g ≡ entryOf s f)
           (en : n ≡ a .steps + a .extras + m) (C : Controller.RunAnswered target g args depth n c records records′) where
-        controller-answered : Controller.RunAnswered (translationOf s) (entryOf s f) args depth (controllerBudget (Bench.runTells s f args depth budget)) c records records′
+        controller-answered : Controller.RunAnswered (translationOf s) (entryOf s f) args depth (controllerBudget (Bench.runSummary s f args depth budget)) c records records′
         controller-answered =
-            subst (λ (k : ℕ). Controller.RunAnswered (translationOf s) (entryOf s f) args depth k c records records′) (en ∙ budget-told)
+            subst (λ (k : ℕ). Controller.RunAnswered (translationOf s) (entryOf s f) args depth k c records records′) (en ∙ budget-is)
             (subst (λ (k : ℕ). Controller.RunAnswered (translationOf s) k args depth n c records records′) ig
             (subst (λ (t : List ℕ). Controller.RunAnswered t g args depth n c records records′) it C))
 
-        controller-said : (c .verdict ≡ Accepted) × (Controller.saidBy c ≡ toldOf (controllerRun s f args depth budget))
-        controller-said = answered (c .verdict) (Controller.saidBy c) (toldOf (controllerRun s f args depth budget)) (controller-answered .said)
+        controller-summary : (c .verdict ≡ Accepted) × (Controller.summaryOf c ≡ summary (controllerRun s f args depth budget))
+        controller-summary = answered (c .verdict) (Controller.summaryOf c) (summary (controllerRun s f args depth budget)) (controller-answered .answer)
 
-        together-told : toldOf (controllerRun s f args depth budget) ≡ record { stop = Bench.saidBy a .result .stop; steps = a .steps + a .extras }
-        together-told =
+        together-summary : summary (controllerRun s f args depth budget) ≡ record { stop = Bench.summaryOf a .result .stop; steps = a .steps + a .extras }
+        together-summary =
             ran-alike s f args depth (R .isAccepted) (R .function) (R .arguments) (claim .isAccepted) (claim .entry) (claim .arguments) (claim .benchMoves) (claim .controllerMoves) (claim .agree) budget
-            ∙ ap (λ (t : Bench.Told). record { stop = t .result .stop; steps = t .result .steps + t .extras }) (sym (bench-said .1))
+            ∙ ap (λ (t : Bench.BenchSummary). record { stop = t .result .stop; steps = t .result .steps + t .extras }) (sym (bench-summary .1))
 
         pub machines-ran : MachinesRan s f args depth budget (record { verdict = Accepted; target = length target; bench = a; controller = c }) frames frames′ records records′
         machines-ran =
             record {
-              said = ap tells (cc (ap length it, bench-said .1, controller-said .1));
+              answer = ap tells (cc (ap length it, bench-summary .1, controller-summary .1));
               together =
                   record {
                     frameWords = B .held;
                     recordWords = controller-answered .held;
                     stops = stops-match s f args depth (R .isAccepted) (R .function) (R .arguments) (claim .isAccepted) (claim .entry) (claim .arguments) (claim .benchMoves) (claim .controllerMoves) (claim .agree) budget;
-                    counted = ap (λ (r : Result (Unit {0})). r .steps) (controller-said .1 ∙ together-told);
-                    neitherRefused = (bench-said .0, controller-said .0);
+                    counted = ap (λ (r : Result (Unit {0})). r .steps) (controller-summary .1 ∙ together-summary);
+                    neitherRefused = (bench-summary .0, controller-summary .0);
                     claim = claim;
                   };
             }
@@ -122,16 +122,16 @@ module _ (s : List ℕ) (f : FunctionNumber) (args : List ℤ) (depth budget : �
   verdict = sidesVerdict s f (length args) depth (length (m .frames)) (length (m .room)) (length (m .records))
 
   -- The three promises of the call.
-  abbrev pub Answered : Sides → Memory → Type 0
-  Answered a m′ =
-      Promised (λ b. verdictOf (b .verdict)) saidBy refusedSides (sidesTell s f args depth budget (length (m .frames)) (length (m .room)) (length (m .records))) verdict (Ran s f args depth budget a m m′) a m m′
+  abbrev pub Promises : Sides → Memory → Type 0
+  Promises a m′ =
+      Promised (λ b. verdictOf (b .verdict)) summaryOf refusedSides (sidesTell s f args depth budget (length (m .frames)) (length (m .room)) (length (m .records))) verdict (Ran s f args depth budget a m m′) a m m′
 
   -- A refused call.
-  pub refused-so : {r : Refusal} (a : Sides) → a ≡ refusedSides r → verdict ≡ refused (r .number) (r .place) → Answered a m
+  pub refused-so : {r : Refusal} (a : Sides) → a ≡ refusedSides r → verdict ≡ refused (r .number) (r .place) → Promises a m
   unfolding sidesTell
-  refused-so {r} a q e = promised-refused (λ b. verdictOf (b .verdict)) saidBy refusedSides (runsTell s f args depth budget) refl (Ran s f args depth budget a m m) a m r refl e q
+  refused-so {r} a q e = promised-refused (λ b. verdictOf (b .verdict)) summaryOf refusedSides (runsSummary s f args depth budget) refl (Ran s f args depth budget a m m) a m r refl e q
 
-  pub file-refused : {v : Checked} {r : Refusal} (a : Sides) → verdictOf v ≡ checkOf s → v ≡ Refused r → a ≡ refusedSides r → Answered a m
+  pub file-refused : {v : Checked} {r : Refusal} (a : Sides) → verdictOf v ≡ checkOf s → v ≡ Refused r → a ≡ refusedSides r → Promises a m
   unfolding sidesVerdict
   file-refused a e q k = refused-so a k (rw (sym e ∙ ap verdictOf q))
 
@@ -189,7 +189,7 @@ module _ (s : List ℕ) (f : FunctionNumber) (args : List ℤ) (depth budget : �
   unfolding sidesVerdict
   judged = rw (J .isAccepted) (J .verdict)
 
-  pub call-refused : {r : Refusal} (a : Sides) → v ≡ Refused r → a ≡ refusedSides r → Answered s f args depth budget m a m
+  pub call-refused : {r : Refusal} (a : Sides) → v ≡ Refused r → a ≡ refusedSides r → Promises s f args depth budget m a m
   call-refused a q k = refused-so s f args depth budget m a k (sym judged ∙ ap verdictOf q)
 
   module _ (q : v ≡ Accepted) where
@@ -229,9 +229,9 @@ module _ (s : List ℕ) (f : FunctionNumber) (args : List ℤ) (depth budget : �
           ∙ (ap (λ (d : List ℕ). take (length (translationOf s)) d) room-is ∙ take-append-seam (translationOf s) (drop (length (translationOf s)) (m .room)))
 
       pub call-ran : {frames′ records′ : List ℤ} (a : Sides) → MachinesRan s f args depth budget a (m .frames) frames′ (m .records) records′
-          → Answered s f args depth budget m a (record { frames = frames′; room = room′; records = records′ })
+          → Promises s f args depth budget m a (record { frames = frames′; room = room′; records = records′ })
       unfolding sidesTell
       call-ran {frames′} {records′} a M =
           let m′ : Memory = record { frames = frames′; room = room′; records = records′ } in
-          promised-ran (λ b. verdictOf (b .verdict)) saidBy refusedSides (runsTell s f args depth budget) refl (Ran s f args depth budget a m m′) a m m′ (sym judged ∙ ap verdictOf q) (M .said)
+          promised-ran (λ b. verdictOf (b .verdict)) summaryOf refusedSides (runsSummary s f args depth budget) refl (Ran s f args depth budget a m m′) a m m′ (sym judged ∙ ap verdictOf q) (M .answer)
           (record { translation = room-is; together = M .together })

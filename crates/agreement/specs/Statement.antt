@@ -73,7 +73,7 @@ abbrev pub translationRun : List ℕ → FunctionNumber → List ℤ → ℕ →
 translationRun s f args depth = controller (Target.codeOf (translationOf s)) (entryOf s f) args depth
 
 -- "The controller gets bench steps plus extras, one more where the bench stopped deep."
-unfoldable pub controllerBudget : Bench.Told → ℕ
+unfoldable pub controllerBudget : Bench.BenchSummary → ℕ
 controllerBudget t = t .result .steps + t .extras + oneMoreIfDeep (t .result .stop)
 
 -- An answer that is deep.
@@ -85,23 +85,23 @@ AnswersDeep result (tells a) = result a .stop ≡ deep tt
 -- with bench steps + extras, one more where the bench stopped deep. Neither refuses; both stopped alike (the same value, uncaught with the
 -- same number, spent or deep); controller steps = bench steps + extras.
 pub record AnswersAgree (s : List ℕ) (f : FunctionNumber) (args : List ℤ) (depth budget frames records : ℕ) : Type 0 where
-  pub told : Bench.Told
-  pub benchTold : Bench.benchTells s f args depth budget frames ≡ tells told
-  pub controllerTold : Controller.controllerTells (translationOf s) (entryOf s f) args depth (controllerBudget told) records
-      ≡ tells (record { stop = told .result .stop; steps = told .result .steps + told .extras })
+  pub answer : Bench.BenchSummary
+  pub benchAnswers : Bench.benchTells s f args depth budget frames ≡ tells answer
+  pub controllerAnswers : Controller.controllerTells (translationOf s) (entryOf s f) args depth (controllerBudget answer) records
+      ≡ tells (record { stop = answer .result .stop; steps = answer .result .steps + answer .extras })
   -- With exactly bench steps + extras it answers with that count too, spent where the bench stopped deep ..
-  pub exactly : Controller.controllerTells (translationOf s) (entryOf s f) args depth (told .result .steps + told .extras) records
-      ≡ tells (record { stop = spentIfDeep (told .result .stop); steps = told .result .steps + told .extras })
+  pub exactly : Controller.controllerTells (translationOf s) (entryOf s f) args depth (answer .result .steps + answer .extras) records
+      ≡ tells (record { stop = spentIfDeep (answer .result .stop); steps = answer .result .steps + answer .extras })
   -- .. and with one step more for each, one answers deep exactly when the other does.
-  pub sameDeep : AnswersDeep (λ t. t .result) (Bench.benchTells s f args depth (told .result .steps + 1) frames)
-      ↔ AnswersDeep (λ r. r) (Controller.controllerTells (translationOf s) (entryOf s f) args depth (told .result .steps + told .extras + 1) records)
+  pub sameDeep : AnswersDeep (λ t. t .result) (Bench.benchTells s f args depth (answer .result .steps + 1) frames)
+      ↔ AnswersDeep (λ r. r) (Controller.controllerTells (translationOf s) (entryOf s f) args depth (answer .result .steps + answer .extras + 1) records)
   -- Document 02, Slip 1: "Where demand 3 pairs two ended runs, the charge from bench steps and extras must equal the charge from the
   -- controller's own count". (Where they did not end, both are refused.)
-  pub sameCharge : charge (Controller.controllerTells (translationOf s) (entryOf s f) args depth (controllerBudget told) records)
+  pub sameCharge : charge (Controller.controllerTells (translationOf s) (entryOf s f) args depth (controllerBudget answer) records)
       ≡ charge (withExtras (Bench.benchTells s f args depth budget frames))
   -- Where they ended it is in cents, and not refused, for every budget that a call of the bench takes.
-  pub inCents : budget < 4294967296 → (e : End) → told .result .stop ≡ ended e
-      → charge (withExtras (Bench.benchTells s f args depth budget frames)) ≡ tells (cents (told .result .steps + told .extras))
+  pub inCents : budget < 4294967296 → (e : End) → answer .result .stop ≡ ended e
+      → charge (withExtras (Bench.benchTells s f args depth budget frames)) ≡ tells (cents (answer .result .steps + answer .extras))
 
 -- What is claimed of an accepted procedure file s, for a start function, arguments of the right number and a depth limit.
 pub record Claim (s : List ℕ) (f : FunctionNumber) (args : List ℤ) (depth : ℕ) : Type 0 where

@@ -9,7 +9,7 @@ use lib.ListN.{length}
 use Rattle.semantics.specs.Program.{FunctionNumber, Variable, Block, constant, copy, difference, call, goto, return, branch, raise, Labelled, Function, Program, functionOf, programVersion}
 use Rattle.semantics.specs.WellFormed.{All, WellFormedState}
 use Rattle.semantics.specs.Code.{Target, Code}
-use Rattle.semantics.specs.Run.{Stop, ended, spent, deep, broken, IsBroken, Result, told, oneMoreIfDeep}
+use Rattle.semantics.specs.Run.{Stop, ended, spent, deep, broken, IsBroken, Result, bareStop, oneMoreIfDeep, summary}
 use Rattle.semantics.specs.Bench.{State, waiting, bench}
 use Rattle.semantics.specs.Controller.{inUse, controller, targetOf, noTarget, codeVersion}
 use Rattle.semantics.specs.SlotStates.{StateKeeps}
@@ -23,14 +23,14 @@ use Rattle.semantics.specs.TranslationLaws.{entry-at}
 use Rattle.semantics.specs.Theorem.{demand3, bench-is-sound}
 use Rattle.semantics.specs.SlotStateLaws.{controller-is-sound}
 use Rattle.semantics.specs.DroppedLaws.{dropped-forgotten}
-use Rattle.semantics.specs.AlikeLaws.{one-more-told}
+use Rattle.semantics.specs.AlikeLaws.{one-more-bare}
 use Rattle.semantics.specs.StopLaws.{bench-bound, extras-bound, Together, together, Exactly, exactly, bench-again, controller-left}
 use Rattle.parsing.specs.Parser.{Verdict, accepted, refused}
 use Rattle.parsing.specs.Bytes.{Bytes}
 use Rattle.memory.specs.Frame.{frameSize}
 use Rattle.memory.specs.Call.{argumentsVerdict}
 use Rattle.memory.specs.CallLaws.{arguments-fit, call-fits}
-use Rattle.runs.specs.Tells.{Tells, tells, tellsBy, toldOf}
+use Rattle.runs.specs.Tells.{Tells, tells, byVerdict}
 use Rattle.procedure_names.specs.Writing.{ValuesFit, ReceiverFits, LabelledFits, FunctionInRange}
 use Rattle.procedure_file.specs.Check as Procedure
 use Rattle.procedure_file.specs.Accepted.{HasFile}
@@ -97,13 +97,13 @@ source P h =
 
 module _ (s : List ℕ) (f : FunctionNumber) (args : List ℤ) (depth frames : ℕ) (ok : Procedure.checkOf s ≡ accepted) (below : f < length (Procedure.programOf s))
     (la : length args ≡ functionOf (Procedure.programOf s) f .params) (depthBound : depth ≤ 256) (room : frameSize * depth ≤ frames) where
-  pub bench-tells : (budget : ℕ) → benchTells s f args depth budget frames ≡ tells (Bench.runTells s f args depth budget)
+  pub bench-tells : (budget : ℕ) → benchTells s f args depth budget frames ≡ tells (Bench.runSummary s f args depth budget)
   unfolding benchTells benchVerdict
   bench-tells budget = rw (ok, call-fits f (length (Procedure.programOf s)) (argumentsVerdict (length args) (functionOf (Procedure.programOf s) f .params)) frameSize depth frames below (arguments-fit (length args) (functionOf (Procedure.programOf s) f .params) la) depthBound room)
 
 module _ (t : List ℕ) (g : ℕ) (args : List ℤ) (depth records : ℕ) (ok : Target.checkOf t ≡ accepted) (below : g < length (Target.codeOf t))
     (la : length args ≡ targetOf (Target.codeOf t) g .params) (depthBound : depth ≤ 256) (room : frameSize * depth ≤ records) where
-  pub controller-tells : (budget : ℕ) → controllerTells t g args depth budget records ≡ tells (toldOf (controller (Target.codeOf t) g args depth budget))
+  pub controller-tells : (budget : ℕ) → controllerTells t g args depth budget records ≡ tells (summary (controller (Target.codeOf t) g args depth budget))
   unfolding controllerTells controllerVerdict
   controller-tells budget = rw (ok, call-fits g (length (Target.codeOf t)) (argumentsVerdict (length args) (targetOf (Target.codeOf t) g .params)) frameSize depth records below (arguments-fit (length args) (targetOf (Target.codeOf t) g .params) la) depthBound room)
 
@@ -150,37 +150,37 @@ module _ (s : List ℕ) (f : FunctionNumber) (args : List ℤ) (depth : ℕ) (ok
     abbrev x : ℕ
     x = extras P f args depth budget
 
-    pub budget-is : controllerBudget (Bench.runTells s f args depth budget) ≡ b .steps + x + oneMoreIfDeep (b .stop)
+    pub budget-is : controllerBudget (Bench.runSummary s f args depth budget) ≡ b .steps + x + oneMoreIfDeep (b .stop)
     unfolding controllerBudget
-    budget-is = ap (λ (k : ℕ). b .steps + x + k) (one-more-told (b .stop))
+    budget-is = ap (λ (k : ℕ). b .steps + x + k) (one-more-bare (b .stop))
 
-    pub ran-alike : toldOf (translationRun s f args depth (controllerBudget (Bench.runTells s f args depth budget))) ≡ record { stop = told (b .stop); steps = b .steps + x }
+    pub ran-alike : summary (translationRun s f args depth (controllerBudget (Bench.runSummary s f args depth budget))) ≡ record { stop = bareStop (b .stop); steps = b .steps + x }
     ran-alike = rw (budget-is, runs-together budget .stops .alike, runs-together budget .steps)
 
-    pub stops-match : StopsMatch P (b .stop) (translationRun s f args depth (controllerBudget (Bench.runTells s f args depth budget)) .stop)
+    pub stops-match : StopsMatch P (b .stop) (translationRun s f args depth (controllerBudget (Bench.runSummary s f args depth budget)) .stop)
     stops-match = rw budget-is (runs-together budget .stops)
 
     answers-agree : Bytes s → depth ≤ 256 → (frames records : ℕ) → frameSize * depth ≤ frames → frameSize * depth ≤ records → AnswersAgree s f args depth budget frames records
     answers-agree bytes depthBound frames records lf lr =
         record {
-          told = Bench.runTells s f args depth budget;
-          benchTold = bench-told;
-          controllerTold = controller-told;
+          answer = Bench.runSummary s f args depth budget;
+          benchAnswers = bench-answers;
+          controllerAnswers = controller-answers;
           exactly = answers (b .steps + x) ∙ rw (runs-exactly budget .stop, runs-exactly budget .steps) refl;
           sameDeep = rw (bench-tells s f args depth frames ok below la depthBound lf (b .steps + 1), answers (b .steps + x + 1)) (runs-exactly budget .sameDeep);
-          sameCharge = ap charge (controller-told ∙ sym (ap withExtras bench-told));
-          inCents = λ small e q. ap (λ (t : Tells Bench.Told). charge (withExtras t)) bench-told ∙ ended-charged (told (b .stop)) (b .steps + x) e q (few small);
+          sameCharge = ap charge (controller-answers ∙ sym (ap withExtras bench-answers));
+          inCents = λ small e q. ap (λ (t : Tells Bench.BenchSummary). charge (withExtras t)) bench-answers ∙ ended-charged (bareStop (b .stop)) (b .steps + x) e q (few small);
         }
       where
-        answers : (n : ℕ) → controllerTells (translationOf s) (entryOf s f) args depth n records ≡ tells (toldOf (translationRun s f args depth n))
+        answers : (n : ℕ) → controllerTells (translationOf s) (entryOf s f) args depth n records ≡ tells (summary (translationRun s f args depth n))
         answers = controller-tells (translationOf s) (entryOf s f) args depth records accepts there lt depthBound lr
 
-        bench-told : benchTells s f args depth budget frames ≡ tells (Bench.runTells s f args depth budget)
-        bench-told = bench-tells s f args depth frames ok below la depthBound lf budget
+        bench-answers : benchTells s f args depth budget frames ≡ tells (Bench.runSummary s f args depth budget)
+        bench-answers = bench-tells s f args depth frames ok below la depthBound lf budget
 
-        controller-told : controllerTells (translationOf s) (entryOf s f) args depth (controllerBudget (Bench.runTells s f args depth budget)) records
-            ≡ tells (record { stop = told (b .stop); steps = b .steps + x })
-        controller-told = answers (controllerBudget (Bench.runTells s f args depth budget)) ∙ ap tells ran-alike
+        controller-answers : controllerTells (translationOf s) (entryOf s f) args depth (controllerBudget (Bench.runSummary s f args depth budget)) records
+            ≡ tells (record { stop = bareStop (b .stop); steps = b .steps + x })
+        controller-answers = answers (controllerBudget (Bench.runSummary s f args depth budget)) ∙ ap tells ran-alike
 
         few : budget < 4294967296 → b .steps + x ≤ 18446744073709551615
         few small = let l = few-steps s bytes ok f args depth budget small in omega (arith, l)
@@ -239,13 +239,13 @@ translation-slots s bytes ok =
 
 -- ── Demand 1 ────────────────────────────────────────────────────────────────────────────────────
 
-told-broken : {S : Type 0} (x : Stop S) → ¬ IsBroken x → ¬ IsBroken (told x)
-told-broken (ended e) n b = n b
-told-broken (spent s) n b = n b
-told-broken (deep s) n b = n b
-told-broken (broken s) n b = n b
+bare-broken : {S : Type 0} (x : Stop S) → ¬ IsBroken x → ¬ IsBroken (bareStop x)
+bare-broken (ended e) n b = n b
+bare-broken (spent s) n b = n b
+bare-broken (deep s) n b = n b
+bare-broken (broken s) n b = n b
 
-never-broken : {A : Type 0} (result : A → Result (Unit {0})) (a : A) → ¬ IsBroken (result a .stop) → (v : Verdict) → NeverBroken result (tellsBy v a)
+never-broken : {A : Type 0} (result : A → Result (Unit {0})) (a : A) → ¬ IsBroken (result a .stop) → (v : Verdict) → NeverBroken result (byVerdict v a)
 never-broken result a n accepted = n
 never-broken result a n (refused number place) = tt
 
@@ -255,9 +255,9 @@ files-move =
     record {
       bench = λ s bytes ok f below args la depth.
           let S = bench-is-sound (Procedure.programOf s) (is-writing s bytes ok .0 .wellFormed) f below args la depth in
-          (S, λ budget words. never-broken (λ t. t .result) (Bench.runTells s f args depth budget) (told-broken (bench (Procedure.programOf s) f args depth budget .stop) (S .moves budget)) (benchVerdict s f (length args) depth words));
+          (S, λ budget words. never-broken (λ t. t .result) (Bench.runSummary s f args depth budget) (bare-broken (bench (Procedure.programOf s) f args depth budget .stop) (S .moves budget)) (benchVerdict s f (length args) depth words));
       controller = λ t bytes ok g below args la depth.
           let S = controller-is-sound (slotsIn (codeVersion (Target.codeOf t))) (Target.codeOf t) (TargetLaws.is-writing t bytes ok .0 .rules) g below args la depth in
-          (S, λ budget words. never-broken (λ r. r) (toldOf (controller (Target.codeOf t) g args depth budget)) (told-broken (controller (Target.codeOf t) g args depth budget .stop) (S .moves budget)) (controllerVerdict t g (length args) depth words));
+          (S, λ budget words. never-broken (λ r. r) (summary (controller (Target.codeOf t) g args depth budget)) (bare-broken (controller (Target.codeOf t) g args depth budget .stop) (S .moves budget)) (controllerVerdict t g (length args) depth words));
       dropped = λ t bytes ok g args depth c r. dropped-forgotten (Target.codeOf t) g args depth (r .0) c (r .1);
     }

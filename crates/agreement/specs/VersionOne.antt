@@ -5,6 +5,7 @@ use mathlib.Core.Path.{_≡_}
 use mathlib.Core.List.{List}
 use lib.IntN.{ℤ}
 use lib.ListN.{length}
+use Rattle.semantics.specs.Run.{summary}
 use Rattle.semantics.specs.Program.{FunctionNumber}
 use Rattle.semantics.specs.Bench.{bench}
 use Rattle.semantics.specs.Controller.{controller}
@@ -16,7 +17,7 @@ use Rattle.procedure_file.specs.Check as Procedure
 use Rattle.target_file.specs.Check as Target
 use Rattle.target_file.specs.Writing.{writing}
 use Rattle.translator.specs.Translated.{translationOf}
-use Rattle.runs.specs.Tells.{tellsBy, toldOf}
+use Rattle.runs.specs.Tells.{byVerdict}
 use Rattle.bench.specs.Published.{benchVerdict, benchTells}
 use Rattle.controller.specs.Published.{controllerVerdict, controllerTells}
 
@@ -26,14 +27,14 @@ pub record ProcedureAsEver (s : List ℕ) : Type 0 where
   pub translation : translationOf s ≡ writing (translate₁ (Procedure.programOf s))
   pub answers : (f : FunctionNumber) (args : List ℤ) (depth budget words : ℕ)
       → benchTells s f args depth budget words
-      ≡ tellsBy (benchVerdict s f (length args) depth words)
-      (record { result = toldOf (bench₁ (Procedure.programOf s) f args depth budget); extras = extras₁ (Procedure.programOf s) f args depth budget })
+      ≡ byVerdict (benchVerdict s f (length args) depth words)
+      (record { result = summary (bench₁ (Procedure.programOf s) f args depth budget); extras = extras₁ (Procedure.programOf s) f args depth budget })
   pub uncaught : (f : FunctionNumber) (args : List ℤ) (depth : ℕ) → ReportsZero (bench (Procedure.programOf s) f args depth)
 
 -- Of a translated file, hand-written too: what the controller answers to every call, and that a run that ends uncaught reports 0.
 pub record CodeAsEver (t : List ℕ) : Type 0 where
   pub answers : (g : ℕ) (args : List ℤ) (depth budget words : ℕ)
-      → controllerTells t g args depth budget words ≡ tellsBy (controllerVerdict t g (length args) depth words) (toldOf (controller₁ (Target.codeOf t) g args depth budget))
+      → controllerTells t g args depth budget words ≡ byVerdict (controllerVerdict t g (length args) depth words) (summary (controller₁ (Target.codeOf t) g args depth budget))
   pub uncaught : (g : ℕ) (args : List ℤ) (depth : ℕ) → ReportsZero (controller (Target.codeOf t) g args depth)
 
 -- For every accepted file of version 1.

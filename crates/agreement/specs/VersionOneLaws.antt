@@ -6,7 +6,7 @@ use mathlib.Core.List.{List, [], _∷_}
 use mathlib.Core.Option.{Option, none, some}
 use lib.ListN.{length}
 use Rattle.semantics.specs.Program.{Variable, Block, constant, copy, difference, call, goto, return, branch, raise, Labelled, Function, programVersion}
-use Rattle.semantics.specs.Run.{Result}
+use Rattle.semantics.specs.Run.{Result, summary}
 use Rattle.semantics.specs.WellFormed.{All}
 use Rattle.semantics.specs.Code.{Slot, Expr, letConstant, letSlot, letDifference, jump, resume, handle, ifAtMost, letContinuation, letContinuationWithHandler, letDifferenceOrRaise, Target}
 use Rattle.semantics.specs.Controller.{Control, codeVersion}
@@ -24,7 +24,7 @@ use Rattle.target_file.specs.Check as Target
 use Rattle.target_file.specs.Writing.{slotWidth, FieldsFit, TargetInRange, writing}
 use Rattle.target_file.specs.AcceptedLaws as TargetLaws
 use Rattle.translator.specs.Translated.{translationOf}
-use Rattle.runs.specs.Tells.{tellsBy, toldOf}
+use Rattle.runs.specs.Tells.{byVerdict}
 use Rattle.bench.specs.Published.{benchVerdict, benchTells}
 use Rattle.controller.specs.Published.{controllerVerdict, controllerTells}
 use Rattle.agreement.specs.VersionOne.{ProcedureAsEver, CodeAsEver, AsEver}
@@ -105,7 +105,7 @@ procedures s bytes ok one =
       translation = ap writing (version-one .translates P p);
       answers = λ f args depth budget words.
           let r = version-one .bench P p f args depth .0 budget in
-          λ i. tellsBy (benchVerdict s f (length args) depth words) (record { result = toldOf (r .0 i); extras = r .1 i });
+          λ i. byVerdict (benchVerdict s f (length args) depth words) (record { result = summary (r .0 i); extras = r .1 i });
       uncaught = λ f args depth. version-one .bench P p f args depth .1;
     }
 
@@ -116,7 +116,7 @@ translated-files t bytes ok one =
     let q : CodeOne Q = code-one t bytes ok one in
     record {
       answers = λ g args depth budget words.
-          ap (λ (r : Result Control). tellsBy (controllerVerdict t g (length args) depth words) (toldOf r)) (version-one .controller Q q g args depth .0 budget);
+          ap (λ (r : Result Control). byVerdict (controllerVerdict t g (length args) depth words) (summary r)) (version-one .controller Q q g args depth .0 budget);
       uncaught = λ g args depth. version-one .controller Q q g args depth .1;
     }
 

@@ -23,7 +23,7 @@ ghost use Rattle.runs.specs.Tells.{RefusedBy};
 ghost use Rattle.procedure_file.specs.Loaded.{Loaded};
 ghost use Rattle.translator.specs.Translated.{translationOf};
 ghost use Rattle.agreement.specs.Statement.{entryOf};
-ghost use Rattle.agreement.specs.Sides.{callVerdict, sidesVerdict, sidesTold, sidesTell, SidesMemory, refusedSides, CallFits, MachinesRan};
+ghost use Rattle.agreement.specs.Sides.{callVerdict, sidesVerdict, meaning, sidesTell, SidesMemory, refusedSides, CallFits, MachinesRan};
 
 // The answer of the call: the verdict on it; where it is accepted the bytes of the translation and the answers of both machines.
 pub struct Sides {
@@ -126,7 +126,7 @@ pub fn sides_loaded(
     records: &mut [i32],
 ) -> Sides
     requires { ⌜ Loaded (now file) (now starts) ⌝ }
-    ensures tells { λ a. ⌜ sidesTold a ≡ sidesTell (now (file .entry)) f (now (arguments .entry)) depth budget (length (now (frames .entry))) (length (now (room .entry))) (length (now (records .entry))) ⌝ }
+    ensures tells { λ a. ⌜ meaning a ≡ sidesTell (now (file .entry)) f (now (arguments .entry)) depth budget (length (now (frames .entry))) (length (now (room .entry))) (length (now (records .entry))) ⌝ }
     ensures memory { λ a. ⌜ SidesMemory (now (file .entry)) f (now (arguments .entry)) depth budget a (record { frames = now (frames .entry); room = now (room .entry); records = now (records .entry) }) (record { frames = now (frames .exit); room = now (room .exit); records = now (records .exit) }) ⌝ }
     ensures answer { λ a. ⌜ RefusedBy refusedSides (sidesVerdict (now (file .entry)) f (length (now (arguments .entry))) depth (length (now (frames .entry))) (length (now (room .entry))) (length (now (records .entry)))) a ⌝ }
 {
@@ -178,7 +178,7 @@ pub fn side_by_side(
     room: &mut [u8],
     records: &mut [i32],
 ) -> Sides
-    ensures tells { λ a. ⌜ sidesTold a ≡ sidesTell (now (file .entry)) f (now (arguments .entry)) depth budget (length (now (frames .entry))) (length (now (room .entry))) (length (now (records .entry))) ⌝ }
+    ensures tells { λ a. ⌜ meaning a ≡ sidesTell (now (file .entry)) f (now (arguments .entry)) depth budget (length (now (frames .entry))) (length (now (room .entry))) (length (now (records .entry))) ⌝ }
     ensures memory { λ a. ⌜ SidesMemory (now (file .entry)) f (now (arguments .entry)) depth budget a (record { frames = now (frames .entry); room = now (room .entry); records = now (records .entry) }) (record { frames = now (frames .exit); room = now (room .exit); records = now (records .exit) }) ⌝ }
     ensures answer { λ a. ⌜ RefusedBy refusedSides (sidesVerdict (now (file .entry)) f (length (now (arguments .entry))) depth (length (now (frames .entry))) (length (now (room .entry))) (length (now (records .entry)))) a ⌝ }
 {

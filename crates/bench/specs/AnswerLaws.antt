@@ -16,27 +16,27 @@ use Rattle.runs.specs.CallLaws.{Promised, promised-refused, promised-ran}
 use Rattle.procedure_file.specs.Check.{checkOf, programOf}
 use Rattle.procedure_file.specs.Loaded.{Loaded}
 use Rattle.bench.specs.declared.machine.Answer.{Answer}
-use Rattle.bench.specs.Published.{saidBy, runTells, RunWords, benchVerdict, benchTells, refusedAnswer, CallFits, RunAnswered}
+use Rattle.bench.specs.Published.{summaryOf, runSummary, RunWords, benchVerdict, benchTells, refusedAnswer, CallFits, RunAnswered}
 
 module _ (s : List ℕ) (f : FunctionNumber) (args : List ℤ) (depth budget : ℕ) (words : List ℤ) where
   abbrev verdict : Verdict
   verdict = benchVerdict s f (length args) depth (length words)
 
   -- The three promises of the call.
-  abbrev pub Answered : Answer → List ℤ → Type 0
-  Answered a words′ = Promised (λ b. verdictOf (b .verdict)) saidBy refusedAnswer (benchTells s f args depth budget (length words)) verdict (RunWords s f args depth budget a words words′) a words words′
+  abbrev pub Promises : Answer → List ℤ → Type 0
+  Promises a words′ = Promised (λ b. verdictOf (b .verdict)) summaryOf refusedAnswer (benchTells s f args depth budget (length words)) verdict (RunWords s f args depth budget a words words′) a words words′
 
-  refused-so : {a : Answer} {r : Refusal} → verdict ≡ refused (r .number) (r .place) → a ≡ refusedAnswer r → Answered a words
+  refused-so : {a : Answer} {r : Refusal} → verdict ≡ refused (r .number) (r .place) → a ≡ refusedAnswer r → Promises a words
   unfolding benchTells
   refused-so {a} {r} e q =
-      promised-refused (λ b. verdictOf (b .verdict)) saidBy refusedAnswer (runTells s f args depth budget) refl (RunWords s f args depth budget a words words) a words r refl e q
+      promised-refused (λ b. verdictOf (b .verdict)) summaryOf refusedAnswer (runSummary s f args depth budget) refl (RunWords s f args depth budget a words words) a words r refl e q
 
   by-check : {v : Verdict} → checkOf s ≡ v → verdict ≡ orElse v (callVerdict f (length (programOf s)) (argumentsVerdict (length args) (functionOf (programOf s) f .params)) frameSize depth (length words))
   unfolding benchVerdict
   by-check e = ap (λ (v : Verdict). orElse v (callVerdict f (length (programOf s)) (argumentsVerdict (length args) (functionOf (programOf s) f .params)) frameSize depth (length words))) e
 
   -- The file's own checks.
-  pub file-refused : {a : Answer} {u : Checked} {r : Refusal} → verdictOf u ≡ checkOf s → u ≡ Refused r → a ≡ refusedAnswer r → Answered a words
+  pub file-refused : {a : Answer} {u : Checked} {r : Refusal} → verdictOf u ≡ checkOf s → u ≡ Refused r → a ≡ refusedAnswer r → Promises a words
   file-refused e q k = refused-so (by-check (sym e ∙ ap verdictOf q)) k
 
   -- A loaded file: what the call itself is refused for, by the number of functions and that of the arguments that are wanted.
@@ -48,7 +48,7 @@ module _ (s : List ℕ) (f : FunctionNumber) (args : List ℤ) (depth budget : �
         ∙ (ap₂ (λ (n k : ℕ). callVerdict f n (argumentsVerdict (length args) k) frameSize depth (length words)) (sym en) (sym ew)
         ∙ (ap (λ (x : Verdict). callVerdict f functions x frameSize depth (length words)) (sym ev) ∙ (sym eu ∙ ap verdictOf q)))
 
-    pub call-refused : {a : Answer} {r : Refusal} → u ≡ Refused r → a ≡ refusedAnswer r → Answered a words
+    pub call-refused : {a : Answer} {r : Refusal} → u ≡ Refused r → a ≡ refusedAnswer r → Promises a words
     call-refused q k = refused-so (verdict-is q) k
 
     pub call-fits : u ≡ Accepted → CallFits s f args depth words
@@ -56,7 +56,7 @@ module _ (s : List ℕ) (f : FunctionNumber) (args : List ℤ) (depth budget : �
         let k = fitting-call f functions v frameSize depth (length words) (sym eu ∙ ap verdictOf q) in
         record { exists = subst (λ (n : ℕ). f < n) en (k .0); arguments = fitting-arguments (length args) wanted (sym ev ∙ k .1) ∙ ew; depthBound = k .2; room = k .3 }
 
-    pub call-answered : {a : Answer} {words′ : List ℤ} → u ≡ Accepted → RunAnswered s f args depth budget a words words′ → Answered a words′
+    pub call-answered : {a : Answer} {words′ : List ℤ} → u ≡ Accepted → RunAnswered s f args depth budget a words words′ → Promises a words′
     unfolding benchTells
     call-answered {a} {words′} q R =
-        promised-ran (λ b. verdictOf (b .verdict)) saidBy refusedAnswer (runTells s f args depth budget) refl (RunWords s f args depth budget a words words′) a words words′ (verdict-is q) (R .said) (R .held)
+        promised-ran (λ b. verdictOf (b .verdict)) summaryOf refusedAnswer (runSummary s f args depth budget) refl (RunWords s f args depth budget a words words′) a words words′ (verdict-is q) (R .answer) (R .held)

@@ -5,7 +5,7 @@ use mathlib.Core.List.{List}
 use lib.IntN.{ℤ, pos}
 use lib.ListN.{length, replicate}
 use Rattle.semantics.specs.Program.{FunctionNumber, functionOf}
-use Rattle.semantics.specs.Run.{Result}
+use Rattle.semantics.specs.Run.{Result, summary}
 use Rattle.semantics.specs.Bench.{Frame, State, state, bench}
 use Rattle.semantics.specs.Extras.{extras}
 use Rattle.parsing.specs.declared.Refusal.{Refusal}
@@ -15,41 +15,41 @@ use Rattle.memory.specs.Call.{maxDepth, argumentsVerdict, callVerdict}
 use Rattle.memory.specs.Frame.{frameSize, frameAt}
 use Rattle.runs.specs.declared.Stopped.the-variants.{Spent}
 use Rattle.runs.specs.Stopped.{stoppedAs}
-use Rattle.runs.specs.Tells.{Tells, tells, tellsBy, toldOf, ChangedBy}
+use Rattle.runs.specs.Tells.{Tells, tells, byVerdict, ChangedBy}
 use Rattle.runs.specs.Words.{WordsAfter}
 use Rattle.procedure_layout.specs.Layout.{maxVariables}
 use Rattle.procedure_file.specs.Check.{checkOf, programOf}
-use Rattle.procedure_file.specs.FileInvariant.{Stands}
+use Rattle.procedure_file.specs.FileInvariant.{OperationsAt}
 use Rattle.bench_frames.specs.Machine.{framesOf, stateOf, FrameStands}
 use Rattle.bench.specs.declared.machine.Answer.{Answer}
 use Rattle.bench.specs.RunResult.{zeroRegs, ZeroAtEnd}
 
 -- What an accepted call tells: how the run stopped and the steps taken, and the extras.
-pub record Told : Type 0 where
+pub record BenchSummary : Type 0 where
   pub result : Result (Unit {0})
   pub extras : ℕ
 
 -- What an answer says.
-abbrev pub saidBy : Answer → Told
-saidBy a = record { result = record { stop = stoppedAs (a .stopped); steps = a .steps }; extras = a .extras }
+abbrev pub summaryOf : Answer → BenchSummary
+summaryOf a = record { result = record { stop = stoppedAs (a .stopped); steps = a .steps }; extras = a .extras }
 
-abbrev pub toldBy : Answer → Tells Told
-toldBy a = tellsBy (verdictOf (a .verdict)) (saidBy a)
+abbrev pub meaning : Answer → Tells BenchSummary
+meaning a = byVerdict (verdictOf (a .verdict)) (summaryOf a)
 
 -- The rules' run from function f of the program that the file is, and what it tells.
 abbrev pub runOf : List ℕ → FunctionNumber → List ℤ → ℕ → ℕ → Result State
 runOf s f args depth budget = bench (programOf s) f args depth budget
 
-abbrev pub runTells : List ℕ → FunctionNumber → List ℤ → ℕ → ℕ → Told
-runTells s f args depth budget = record { result = toldOf (runOf s f args depth budget); extras = extras (programOf s) f args depth budget }
+abbrev pub runSummary : List ℕ → FunctionNumber → List ℤ → ℕ → ℕ → BenchSummary
+runSummary s f args depth budget = record { result = summary (runOf s f args depth budget); extras = extras (programOf s) f args depth budget }
 
 -- The file's own checks; then 9, where there is no function f to start at; then 14 by its parameters; then 16.
 unfoldable pub benchVerdict : List ℕ → FunctionNumber → ℕ → ℕ → ℕ → Verdict
 benchVerdict s f given depth words = orElse (checkOf s) (callVerdict f (length (programOf s)) (argumentsVerdict given (functionOf (programOf s) f .params)) frameSize depth words)
 
 -- What the bench tells of a file, the function that it starts at, its arguments, a depth limit, a budget and so many lent words.
-unfoldable pub benchTells : List ℕ → FunctionNumber → List ℤ → ℕ → ℕ → ℕ → Tells Told
-benchTells s f args depth budget words = tellsBy (benchVerdict s f (length args) depth words) (runTells s f args depth budget)
+unfoldable pub benchTells : List ℕ → FunctionNumber → List ℤ → ℕ → ℕ → ℕ → Tells BenchSummary
+benchTells s f args depth budget words = byVerdict (benchVerdict s f (length args) depth words) (runSummary s f args depth budget)
 
 -- The frames waiting in a state.
 abbrev pub framesIn : State → List Frame
@@ -60,7 +60,7 @@ framesIn (state f h b vs fs) = fs
 -- V variables: words 4 + V to 47 of a waiting frame, and `vars` from V on.
 pub record StateGiven (s : List ℕ) (a : Answer) (words : List ℤ) (S : State) : Type 0 where
   pub is : stateOf s (a .regs) (a .vars) words ≡ S
-  pub here : Stands s (a .regs .function) (a .regs .at)
+  pub here : OperationsAt s (a .regs .function) (a .regs .at)
   pub frames : (d : ℕ) → d < a .regs .waiting → FrameStands s (frameAt d words)
   pub extras : a .regs .extras ≡ a .extras
 
@@ -97,5 +97,5 @@ pub record CallFits (s : List ℕ) (f : FunctionNumber) (args : List ℤ) (depth
 
 -- The answer of a run from function f.
 pub record RunAnswered (s : List ℕ) (f : FunctionNumber) (args : List ℤ) (depth budget : ℕ) (a : Answer) (words words′ : List ℤ) : Type 0 where
-  pub said : toldBy a ≡ tells (runTells s f args depth budget)
+  pub answer : meaning a ≡ tells (runSummary s f args depth budget)
   pub held : RunWords s f args depth budget a words words′

@@ -8,7 +8,7 @@ use lib.IntN.{ℤ, pos}
 use lib.ListN.{length, take, drop, replicate, length-replicate}
 use lib.Seq.{take-append-add, take-length}
 use Rattle.semantics.specs.Program.{FunctionNumber, Block}
-use Rattle.semantics.specs.Run.{Result, run, total}
+use Rattle.semantics.specs.Run.{Result, run, total, summary}
 use Rattle.semantics.specs.Bench.{Frame, State, state, begun, step, bench}
 use Rattle.semantics.specs.WellFormed.{WellFormedState}
 use Rattle.semantics.specs.Extras.{extra, extras}
@@ -19,12 +19,12 @@ use Rattle.memory.specs.Frame.{frameSize}
 use Rattle.memory.specs.LayLaws.{length-lay}
 use Rattle.memory.specs.FrameLaws.{frame-same}
 use Rattle.runs.specs.Stopped.{stoppedAs, inUse}
-use Rattle.runs.specs.Tells.{tells, toldOf}
+use Rattle.runs.specs.Tells.{tells}
 use Rattle.runs.specs.WordsLaws.{in-use-as, in-use-fits, Cleared, cleared, words-after}
 use Rattle.procedure_layout.specs.Rest.{restAt}
 use Rattle.procedure_file.specs.Check.{programOf}
 use Rattle.procedure_file.specs.Places.{startOf}
-use Rattle.procedure_file.specs.FileInvariant.{FileInvariant, Stands}
+use Rattle.procedure_file.specs.FileInvariant.{FileInvariant, OperationsAt}
 use Rattle.bench_frames.specs.declared.registers.Regs.{Regs}
 use Rattle.bench_frames.specs.Machine.{functionAt, varsOf, framesOf, stateOf, FrameStands, Standing}
 use Rattle.bench_frames.specs.StateLaws.{length-frames, frames-same}
@@ -88,7 +88,7 @@ module _ {s : List ℕ} (F : FileInvariant s) {f : FunctionNumber} {args : List 
     start-held =
         record {
           good = subst (WellFormedState (programOf s)) (sym start-is) (start-wellFormed (programOf s) (F .wellFormed) f there args (C .arguments));
-          here = subst (λ (k : ℕ). Stands s f k) (sym ea) (F .start f 0 there (omega arith));
+          here = subst (λ (k : ℕ). OperationsAt s f k) (sym ea) (F .start f 0 there (omega arith));
           frames = λ d l. absurd (omega arith);
           waiting = omega arith;
           depthBound = C .depthBound;
@@ -114,8 +114,8 @@ module _ {s : List ℕ} (F : FileInvariant s) {f : FunctionNumber} {args : List 
           ap (λ (S : State). x + total (step (programOf s) depth) (extra (programOf s)) budget S) start-is
           ∙ ap (λ (k : ℕ). k + total (step (programOf s) depth) (extra (programOf s)) budget (begun f (functionAt s f) args [])) ex
 
-      tells-so : toldOf (runOf s f args depth budget) ≡ record { stop = stoppedAs (y .stopped); steps = y .steps }
-      tells-so = ap toldOf (sym ran) ∙ stops .tells
+      tells-so : summary (runOf s f args depth budget) ≡ record { stop = stoppedAs (y .stopped); steps = y .steps }
+      tells-so = ap summary (sym ran) ∙ stops .tells
 
       reached : StoppedAt s depth (held (y .regs) us words₁) (runOf s f args depth budget .stop)
       reached = subst (λ (b : Result State). StoppedAt s depth (held (y .regs) us words₁) (b .stop)) ran (stops .state)
@@ -159,9 +159,9 @@ module _ {s : List ℕ} (F : FileInvariant s) {f : FunctionNumber} {args : List 
           pub answered : RunAnswered s f args depth budget answer words words₂
           answered =
               record {
-                said =
+                answer =
                     ap (λ (k : Result (Unit {0})). tells (record { result = k; extras = y .regs .extras })) (sym tells-so)
-                    ∙ ap (λ (n : ℕ). tells (record { result = toldOf (runOf s f args depth budget); extras = n })) (sym (stops .sum) ∙ sum);
+                    ∙ ap (λ (n : ℕ). tells (record { result = summary (runOf s f args depth budget); extras = n })) (sym (stops .sum) ∙ sum);
                 held =
                     words-after framesIn (λ fs. framesOf s words₂ (length fs) ≡ fs) (ZeroAtEnd (y .regs .extras) (y .regs) us) (StandsFor s depth (held (y .regs) us words₁)) (StateGiven s answer words₂)
                     clean refl still (runOf s f args depth budget .stop) used reached;

@@ -33,7 +33,7 @@ use Rattle.procedure_layout.specs.Rest.{restAt}
 use Rattle.bench_frames.specs.declared.registers.Regs.{Regs}
 use Rattle.bench_frames.specs.declared.registers.Step.the-variants.{Next, Deep}
 use Rattle.procedure_file.specs.Places.{startOf}
-use Rattle.procedure_file.specs.FileInvariant.{FileInvariant, Stands}
+use Rattle.procedure_file.specs.FileInvariant.{FileInvariant, OperationsAt}
 use Rattle.bench_frames.specs.Machine.{functionAt, varsOf, frameOf, framesOf, stateOf, FrameStands, Standing, ArgumentsInBounds}
 use Rattle.bench_frames.specs.StateLaws.{Gives, length-frames, frames-same, front, frameWith, vars-bound, before, stepped, extra-is, placed, small, in-range, on, moved}
 
@@ -194,7 +194,7 @@ module _ {s : List ℕ} (F : FileInvariant s) {limit : ℕ} {r : Regs} {vs words
             rw e
             (record {
               head = pushed-fits frameSize (r .waiting) saved own words own-bound room;
-              place = subst (λ (h : Head). Stands s (h .word0) (h .word2)) (sym (pushed-head frameSize (r .waiting) saved own words own-bound room)) (on F H op);
+              place = subst (λ (h : Head). OperationsAt s (h .word0) (h .word2)) (sym (pushed-head frameSize (r .waiting) saved own words own-bound room)) (on F H op);
             })
         by (no e) =
             let k : i < r .waiting = omega (arith, l, e) in

@@ -22,7 +22,7 @@ use Rattle.bench_frames.specs.declared.registers.Regs.{Regs}
 use Rattle.bench_frames.specs.declared.registers.Step.{Step}
 use Rattle.bench_frames.specs.declared.registers.Step.the-variants.{Next, Ended, Deep}
 use Rattle.procedure_file.specs.Places.{startOf, handlerOf}
-use Rattle.procedure_file.specs.FileInvariant.{Stands}
+use Rattle.procedure_file.specs.FileInvariant.{OperationsAt}
 
 abbrev pub functionAt : List ℕ → FunctionNumber → Function
 functionAt s f = functionOf (programOf s) f
@@ -52,12 +52,12 @@ stateOf s r vs words =
 -- What holds of the words of a waiting frame.
 pub record FrameStands (s : List ℕ) (w : List ℤ) : Type 0 where
   pub head : HeadFits w
-  pub place : Stands s (headOf w .word0) (headOf w .word2)
+  pub place : OperationsAt s (headOf w .word0) (headOf w .word2)
 
 -- What holds between steps.
 pub record Standing (s : List ℕ) (limit : ℕ) (r : Regs) (vs words : List ℤ) : Type 0 where
   pub good : WellFormedState (programOf s) (stateOf s r vs words)
-  pub here : Stands s (r .function) (r .at)
+  pub here : OperationsAt s (r .function) (r .at)
   pub frames : (d : ℕ) → d < r .waiting → FrameStands s (frameAt d words)
   pub waiting : r .waiting ≤ limit
   pub depthBound : limit ≤ maxDepth

@@ -24,9 +24,9 @@ use Rattle.procedure_layout.specs.Rest.{restFrom, restAt}
 use Rattle.bench_frames.specs.declared.registers.Regs.{Regs}
 use Rattle.bench_frames.specs.declared.registers.Step.{Step}
 use Rattle.bench_frames.specs.declared.registers.Step.the-variants.{Next}
-use Rattle.procedure_file.specs.FileInvariant.{FileInvariant, Stands}
+use Rattle.procedure_file.specs.FileInvariant.{FileInvariant, OperationsAt}
 use Rattle.bench_frames.specs.Machine.{functionAt, varsOf, frameOf, framesOf, stateOf, FrameStands, Standing, StepResult}
-use Rattle.bench_frames.specs.StandsLaws.{GoesOn, goes-on, rest-is}
+use Rattle.bench_frames.specs.OperationsLaws.{GoesOn, goes-on, rest-is}
 
 pub length-frames : (s : List ℕ) (words : List ℤ) (d : ℕ) → length (framesOf s words d) ≡ d
 length-frames s words zero = refl
@@ -107,7 +107,7 @@ module _ {s : List ℕ} (F : FileInvariant s) where
     in-range {o} e = F .numbers (r .function) (r .at) o (H .here) e
 
     -- A next state.
-    pub moved : {q : Regs} {vs′ words′ : List ℤ} → step P limit (stateOf s r vs words) ≡ next (stateOf s q vs′ words′) → Stands s (q .function) (q .at)
+    pub moved : {q : Regs} {vs′ words′ : List ℤ} → step P limit (stateOf s r vs words) ≡ next (stateOf s q vs′ words′) → OperationsAt s (q .function) (q .at)
         → ((d : ℕ) → d < q .waiting → FrameStands s (frameAt d words′)) → length vs′ ≡ 32 → length words′ ≡ length words → drop (frameSize * limit) words′ ≡ drop (frameSize * limit) words
         → q .extras ≡ r .extras + extra P (stateOf s r vs words) → Gives H (Next q) vs′ words′
     moved {q} {vs′} {words′} e st fr lv lw k x =

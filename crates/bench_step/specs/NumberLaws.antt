@@ -10,9 +10,9 @@ use Rattle.procedure_operations.specs.declared.operation.Operation.the-variants
 use Rattle.procedure_fields.specs.Number.{numberOf}
 use Rattle.procedure_fields.specs.NumberLaws.{number-known}
 use Rattle.procedure_operations.specs.Operation.{operationAt}
-use Rattle.procedure_file.specs.FileInvariant.{FileInvariant, Stands}
+use Rattle.procedure_file.specs.FileInvariant.{FileInvariant, OperationsAt}
 
-pub numbered : {s : List ℕ} {f at : ℕ} → FileInvariant s → Stands s f at → (1 ≤ numberOf (operationAt s at)) × (numberOf (operationAt s at) ≤ 9)
+pub numbered : {s : List ℕ} {f at : ℕ} → FileInvariant s → OperationsAt s f at → (1 ≤ numberOf (operationAt s at)) × (numberOf (operationAt s at) ≤ 9)
 numbered {s} {f} {at} F S = number-known (operationAt s at) (λ r. F .operation f at r S)
 
 -- That number by its remainder modulo 8, which is 0 for 8 and 1 for 1 and 9.
@@ -25,7 +25,7 @@ small-remainder n a b c d = omega arith
 eighth : {n m : ℕ} → n ≡ m → (1 ≤ m) × (m ≤ 9) → n % 8 ≡ 0 → m ≡ 8
 eighth {m = m} q w e = let a : 1 ≤ m = w .0 in let b : m ≤ 9 = w .1 in omega arith
 
-module _ {s : List ℕ} {f at : ℕ} (F : FileInvariant s) (S : Stands s f at) {n : ℕ} (q : n ≡ numberOf (operationAt s at)) where
+module _ {s : List ℕ} {f at : ℕ} (F : FileInvariant s) (S : OperationsAt s f at) {n : ℕ} (q : n ≡ numberOf (operationAt s at)) where
   pub number-is : {k : ℕ} → n % 8 ≡ k → 2 ≤ k → numberOf (operationAt s at) ≡ k
   number-is {k} e h = by (numberOf (operationAt s at)) q (numbered F S)
     where

@@ -26,7 +26,7 @@ use Rattle.procedure_layout.specs.Rest.{restAt}
 use Rattle.bench_frames.specs.declared.registers.Regs.{Regs}
 use Rattle.bench_frames.specs.declared.registers.Step.{Step}
 use Rattle.bench_frames.specs.declared.registers.Step.the-variants.{Next}
-use Rattle.procedure_file.specs.FileInvariant.{FileInvariant, Stands}
+use Rattle.procedure_file.specs.FileInvariant.{FileInvariant, OperationsAt}
 use Rattle.bench_frames.specs.Machine.{functionAt, varsOf, startRegs, framesOf, stateOf, Standing, StepResult}
 use Rattle.bench_frames.specs.StateLaws.{Gives, before, stepped, extra-is, placed, there, on, moved}
 use Rattle.bench_unwind.specs.Raises.{Raises}
@@ -41,7 +41,7 @@ module _ {s : List ℕ} (F : FileInvariant s) {limit : ℕ} {r : Regs} {vs words
   now-frames = framesOf s words (r .waiting)
 
   -- A value is assigned to variable x, which is a in the code.
-  assigned : {o : Operation} {x a n : ℕ} {u v : ℤ} {q : Regs} → operationAt s (r .at) ≡ o → a ≡ x → v ≡ u → q ≡ behind r n → x < varsOf s (r .function) → Stands s (r .function) n → extra (programOf s) (before F H o) ≡ 0
+  assigned : {o : Operation} {x a n : ℕ} {u v : ℤ} {q : Regs} → operationAt s (r .at) ≡ o → a ≡ x → v ≡ u → q ≡ behind r n → x < varsOf s (r .function) → OperationsAt s (r .function) n → extra (programOf s) (before F H o) ≡ 0
       → step (programOf s) limit (before F H o) ≡ next (state (r .function) (r .handler) (restAt s n) (set now-vars x u) now-frames) → Gives H (Next q) (set vs a v) words
   unfolding stateOf
   assigned {x = x} {n = n} {u = u} e ea ev eq lx st z m =

@@ -35,7 +35,7 @@ use Rattle.procedure_layout.specs.Rest.{restAt}
 use Rattle.bench_frames.specs.declared.registers.Regs.{Regs}
 use Rattle.bench_frames.specs.declared.registers.Step.the-variants.{Next, Ended}
 use Rattle.runs.specs.declared.End.the-variants.{Value, Uncaught}
-use Rattle.procedure_file.specs.FileInvariant.{FileInvariant, Stands}
+use Rattle.procedure_file.specs.FileInvariant.{FileInvariant, OperationsAt}
 use Rattle.bench_frames.specs.Machine.{functionAt, varsOf, startRegs, frameOf, framesOf, stateOf, Standing}
 use Rattle.bench_frames.specs.StateLaws.{Gives, length-frames, front, frameWith, vars-bound, stepped, extra-is, place, placed, there, moved}
 use Rattle.bench_unwind.specs.Raises.{isZero, leaving, Receives, Leaves, Raises}
@@ -109,7 +109,7 @@ module _ {s : List ℕ} (F : FileInvariant s) {limit : ℕ} {r : Regs} {vs words
     pub variableBound : varsOf s (h .word0) ≤ 32
     pub variable : h .word3 < varsOf s (h .word0)
     pub result : h .word3 < 32
-    pub stands : Stands s (h .word0) (h .word2)
+    pub stands : OperationsAt s (h .word0) (h .word2)
     pub copied : (frameSize * d + 4 + 32 ≤ length words) × (0 + 32 ≤ length vs)
     pub depthBound : d < 256
 

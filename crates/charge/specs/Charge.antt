@@ -4,7 +4,7 @@ use lib.Dec.{leb}
 use Rattle.semantics.specs.Run.{Stop, ended, spent, deep, broken, Result}
 use Rattle.parsing.specs.Refusals.{noCharge}
 use Rattle.parsing.specs.Parser.{refusedUnless}
-use Rattle.runs.specs.Tells.{Tells, refuses, tells, tellsBy}
+use Rattle.runs.specs.Tells.{Tells, refuses, tells, byVerdict}
 use Rattle.bench.specs.Published as Bench
 use Rattle.prices.specs.Cents.{cents}
 use Rattle.charge.specs.declared.Charge.{Charge}
@@ -16,7 +16,7 @@ maxSteps = 18446744073709551615
 
 -- The charge of a run that stopped so, with so many controller steps: 18 when it "did not end, or its steps .. pass 64 bits".
 abbrev pub stopCharge : Stop (Unit {0}) → ℕ → Tells ℕ
-stopCharge (ended e) n = tellsBy (refusedUnless (leb n maxSteps) noCharge 0) (cents n)
+stopCharge (ended e) n = byVerdict (refusedUnless (leb n maxSteps) noCharge 0) (cents n)
 stopCharge (spent s) n = refuses noCharge 0
 stopCharge (deep s) n = refuses noCharge 0
 stopCharge (broken s) n = refuses noCharge 0
@@ -27,7 +27,7 @@ charge (refuses number place) = refuses noCharge 0
 charge (tells r) = stopCharge (r .stop) (r .steps)
 
 -- What the bench tells, in controller steps: bench steps + extras.
-abbrev pub withExtras : Tells Bench.Told → Tells (Result (Unit {0}))
+abbrev pub withExtras : Tells Bench.BenchSummary → Tells (Result (Unit {0}))
 withExtras (refuses number place) = refuses number place
 withExtras (tells t) = tells (record { stop = t .result .stop; steps = t .result .steps + t .extras })
 

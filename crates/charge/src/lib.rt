@@ -8,7 +8,7 @@ ghost use mathlib.Core.Path.{_≡_};
 ghost use Rattle.parsing.specs.Refusals.{noCharge};
 ghost use Rattle.parsing.specs.Parser.{verdictOf};
 ghost use Rattle.runs.specs.Stopped.{stoppedAs};
-ghost use Rattle.runs.specs.Tells.{refuses, tellsBy};
+ghost use Rattle.runs.specs.Tells.{refuses, byVerdict};
 ghost use Rattle.bench.specs.Published as Bench;
 ghost use Rattle.controller.specs.Published as Controller;
 ghost use Rattle.charge.specs.Charge.{charge, withExtras, chargeAs};
@@ -34,7 +34,7 @@ fn no_charge() -> Charge
 
 // The charge of a call's run that stopped so, with so many controller steps.
 fn charge_of(verdict: Checked, stopped: Stopped, steps: u64) -> Charge
-    ensures { λ r. ⌜ chargeAs r ≡ charge (tellsBy (verdictOf verdict) (record { stop = stoppedAs stopped; steps = steps })) ⌝ }
+    ensures { λ r. ⌜ chargeAs r ≡ charge (byVerdict (verdictOf verdict) (record { stop = stoppedAs stopped; steps = steps })) ⌝ }
 {
     let none = no_charge();
     let price = Charge::Cents(cents_of(steps));
@@ -50,7 +50,7 @@ fn charge_of(verdict: Checked, stopped: Stopped, steps: u64) -> Charge
 
 // The charge of a run of the bench: from its steps and extras together.
 pub fn bench_charge(a: bench::machine::Answer) -> Charge
-    ensures { λ r. ⌜ chargeAs r ≡ charge (withExtras (Bench.toldBy a)) ⌝ }
+    ensures { λ r. ⌜ chargeAs r ≡ charge (withExtras (Bench.meaning a)) ⌝ }
 {
     let verdict = a.verdict;
     let stopped = a.stopped;
@@ -65,7 +65,7 @@ pub fn bench_charge(a: bench::machine::Answer) -> Charge
 
 // The charge of a run of the controller: from its own count of steps.
 pub fn controller_charge(a: controller::machine::Answer) -> Charge
-    ensures { λ r. ⌜ chargeAs r ≡ charge (Controller.toldBy a) ⌝ }
+    ensures { λ r. ⌜ chargeAs r ≡ charge (Controller.meaning a) ⌝ }
 {
     let verdict = a.verdict;
     let stopped = a.stopped;

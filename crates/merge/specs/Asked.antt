@@ -8,7 +8,7 @@ use Rattle.parsing.specs.Parser.{accepted}
 use Rattle.procedure_layout.specs.Layout.{maxFunctions}
 use Rattle.procedure_file.specs.Check.{checkOf, programOf}
 use Rattle.procedure_file.specs.Loaded.{Laid, Loaded}
-use Rattle.procedure_file.specs.FileInvariant.{FileInvariant, Stands}
+use Rattle.procedure_file.specs.FileInvariant.{FileInvariant, OperationsAt}
 
 -- Two accepted files, and the second's table.
 pub record BothLoaded (s t starts : List ℕ) : Type 0 where
@@ -21,10 +21,10 @@ abbrev pub FewFunctions : List ℕ → List ℕ → Type 0
 FewFunctions s t = length (merged (programOf s) (programOf t)) ≤ maxFunctions
 
 -- An operation of an accepted file stands at an offset.
-pub record OperationStands (s : List ℕ) (at : ℕ) : Type 0 where
+pub record OperationInFile (s : List ℕ) (at : ℕ) : Type 0 where
   pub invariant : FileInvariant s
   pub function : ℕ
-  pub stands : Stands s function at
+  pub stands : OperationsAt s function at
 
 -- An operation fills the bytes from one offset up to another; n can be added to the function that a call names.
 pub record OperationFits (s : List ℕ) (at next n : ℕ) : Type 0 where

@@ -27,7 +27,7 @@ use Rattle.procedure_file.specs.Check.{programOf}
 use Rattle.byte_writers.specs.Writes.{Room, Wrote}
 use Rattle.byte_writers.specs.WriteLaws.{Rest, rest-none, rest-from, rest-room, rest-as, rest-more, rest-last, room-front}
 use Rattle.merge.specs.Parts.{stretch, callHead, operationBytes, restBytes}
-use Rattle.merge.specs.Asked.{OperationStands, OperationFits}
+use Rattle.merge.specs.Asked.{OperationInFile, OperationFits}
 use Rattle.merge.specs.StretchLaws.{stretch-is}
 
 -- ── What stands at an operation's offset, and what is written for it ────────────────────────────
@@ -124,7 +124,7 @@ module _ (s : List ℕ) (at m : ℕ) where
     callee-fits (isRaiseValue e h v) q c w = absurd (omega arith)
     callee-fits (isRefused r) q c w = impossible (cc)
 
-module _ {s : List ℕ} {at : ℕ} (H : OperationStands s at) where
+module _ {s : List ℕ} {at : ℕ} (H : OperationInFile s at) where
   not-refused : (r : Refusal) → operationAt s at ≡ Refused r → ⊥
   not-refused r e = H .invariant .operation (H .function) at r (H .stands) e
 
@@ -153,10 +153,10 @@ module _ {s : List ℕ} {at : ℕ} (H : OperationStands s at) where
 -- ── The loop over a block's operations ──────────────────────────────────────────────────────────
 
 pub record Turn (s : List ℕ) (start n o₀ : ℕ) (d₀ : List ℕ) (at o : ℕ) (d : List ℕ) : Type 0 where
-  pub here : OperationStands s at
+  pub here : OperationInFile s at
   pub rest : Rest o₀ (restBytes s start n) d₀ o (restBytes s at n) d
 
-pub turn-none : {s : List ℕ} {start n o : ℕ} {d : List ℕ} → OperationStands s start → Room o (length (restBytes s start n)) d → Turn s start n o d start o d
+pub turn-none : {s : List ℕ} {start n o : ℕ} {d : List ℕ} → OperationInFile s start → Room o (length (restBytes s start n)) d → Turn s start n o d start o d
 turn-none H R = record { here = H; rest = rest-none R }
 
 module _ {s : List ℕ} {start n o₀ : ℕ} {d₀ : List ℕ} {at o : ℕ} {d : List ℕ} (T : Turn s start n o₀ d₀ at o d) {x : Operation} (e : x ≡ operationAt s at) {a : After} (ea : a ≡ afterOf x) where

@@ -23,7 +23,7 @@ use Rattle.procedure_file.specs.TableLaws.{start-room, start-behind, before-roo
 use Rattle.byte_writers.specs.Writes.{Room}
 use Rattle.byte_writers.specs.WriteLaws.{Rest, rest-from}
 use Rattle.merge.specs.Parts.{stretch, restBytes, entryBytes, labelHead, labelBytes}
-use Rattle.merge.specs.Asked.{OperationStands}
+use Rattle.merge.specs.Asked.{OperationInFile}
 use Rattle.merge.specs.StretchLaws.{stretch-is}
 
 -- What stands before a labelled block that starts at x.
@@ -46,10 +46,10 @@ label-head s L f there (suc l) x b some known ex eb =
 -- The block with label l of function f, which starts at x.
 module _ {s starts : List ℕ} (L : Loaded s starts) {f : ℕ} (there : f < length (programOf s)) {l : ℕ} (block : l ≤ length (functionOf (programOf s) f .blocks)) {x : ℕ}
     (ex : x ≡ startOf (programOf s) f l) where
-  pub block-stands : OperationStands s x
+  pub block-stands : OperationInFile s x
   block-stands =
       let F = loaded-invariant L in
-      subst (OperationStands s) (sym ex) (record { invariant = F; function = f; stands = F .start f l there block })
+      subst (OperationInFile s) (sym ex) (record { invariant = F; function = f; stands = F .start f l there block })
 
   block-is : (n : ℕ) → restBytes s x n ≡ blockBytes (renumberedBlock n (blockOf (functionOf (programOf s) f) l))
   unfolding restBytes

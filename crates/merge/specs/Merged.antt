@@ -9,7 +9,7 @@ use Rattle.parsing.specs.Refusals.{wrongVersion, noRoom, mergedTooLarge}
 use Rattle.parsing.specs.Parser.{Verdict, accepted, orElse, refusedUnless}
 use Rattle.parsing.specs.Fields.{versionOf}
 use Rattle.parsing.specs.Bytes.{Bytes}
-use Rattle.runs.specs.Tells.{Tells, refuses, tells, tellsBy, leaves}
+use Rattle.runs.specs.Tells.{Tells, refuses, tells, byVerdict, leaves}
 use Rattle.procedure_layout.specs.Layout.{fileLimit, maxFunctions}
 use Rattle.procedure_names.specs.Writing.{writing}
 use Rattle.procedure_file.specs.Check.{checkOf, programOf}
@@ -21,9 +21,9 @@ unfoldable pub mergedOf : List ℕ → List ℕ → List ℕ
 mergedOf s t = writing (merged (programOf s) (programOf t))
 
 -- The answer in the documents' numbers: the bytes of the merged file, or a refusal's number and place.
-abbrev pub toldBy : Merged → Tells ℕ
-toldBy (Written n) = tells n
-toldBy (Refused r) = refuses (r .number) (r .place)
+abbrev pub meaning : Merged → Tells ℕ
+meaning (Written n) = tells n
+meaning (Refused r) = refuses (r .number) (r .place)
 
 -- "Merging two versions is refused 2 at place 3 of the second, just before 22" (document 02, Slip 7).
 unfoldable pub versionVerdict : List ℕ → List ℕ → Verdict
@@ -45,7 +45,7 @@ mergeVerdict s t room = orElse (checkOf s) (orElse (checkOf t) (filesVerdict s t
 
 -- The answer for two files and an output of some length.
 unfoldable pub answerOf : List ℕ → List ℕ → ℕ → Tells ℕ
-answerOf s t room = tellsBy (mergeVerdict s t room) (length (mergedOf s t))
+answerOf s t room = byVerdict (mergeVerdict s t room) (length (mergedOf s t))
 
 -- What the output holds afterwards: "Output past the merged file keeps what it held."
 unfoldable pub outputOf : List ℕ → List ℕ → List ℕ → List ℕ

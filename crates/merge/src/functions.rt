@@ -17,7 +17,7 @@ ghost use Rattle.procedure_file.specs.Check.{programOf};
 ghost use Rattle.procedure_file.specs.Loaded.{Loaded};
 ghost use Rattle.byte_writers.specs.Writes.{Room, Wrote};
 ghost use Rattle.merge.specs.Parts.{stretch, operationBytes, restBytes, entryBytes, labelBytes};
-ghost use Rattle.merge.specs.Asked.{OperationFits, OperationStands};
+ghost use Rattle.merge.specs.Asked.{OperationFits, OperationInFile};
 
 // The bytes of a file from `at` up to `next`.
 pub fn put_stretch(file: &[u8], at: usize, next: usize, out: &mut [u8], o: usize) -> usize
@@ -54,7 +54,7 @@ fn put_operation(file: &[u8], at: usize, next: usize, count: u8, out: &mut [u8],
 
 // The block whose first operation stands at `start`.
 fn put_block(file: &[u8], start: usize, count: u8, out: &mut [u8], o: usize) -> usize
-    requires { ⌜ OperationStands (now file) start × (count ≤ maxFunctions) ⌝ }
+    requires { ⌜ OperationInFile (now file) start × (count ≤ maxFunctions) ⌝ }
     requires { ⌜ Room o (length (restBytes (now file) start count)) (now out) ⌝ }
     ensures { λ r. ⌜ Wrote o (restBytes (now (file .entry)) start count) (now (out .entry)) r (now (out .exit)) ⌝ }
 {

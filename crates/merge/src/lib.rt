@@ -15,9 +15,9 @@ use procedure_layout::layout::MAX_FUNCTIONS;
 ghost use mathlib.Core.Path.{_≡_};
 ghost use lib.ListN.{length};
 ghost use Rattle.parsing.specs.Parser.{verdictOf};
-ghost use Rattle.runs.specs.Tells.{tellsBy, leaves};
+ghost use Rattle.runs.specs.Tells.{byVerdict, leaves};
 ghost use Rattle.byte_writers.specs.Writes.{Room, Wrote};
-ghost use Rattle.merge.specs.Merged.{mergedOf, toldBy, versionVerdict, sizeVerdict, filesVerdict, answerOf, outputOf};
+ghost use Rattle.merge.specs.Merged.{mergedOf, meaning, versionVerdict, sizeVerdict, filesVerdict, answerOf, outputOf};
 ghost use Rattle.merge.specs.Parts.{headBytes};
 ghost use Rattle.merge.specs.Asked.{BothLoaded, FewFunctions};
 
@@ -76,7 +76,7 @@ fn put_file(first: &[u8], second: &[u8], starts: &[u16; 2048], out: &mut [u8]) -
 // The merge of two loaded files: 2, 22 and 16 are decided before the first byte is written.
 fn merge_loaded(first: &[u8], second: &[u8], starts: &[u16; 2048], out: &mut [u8]) -> Merged
     requires { ⌜ BothLoaded (now first) (now second) (now starts) ⌝ }
-    ensures { λ r. ⌜ (toldBy r ≡ tellsBy (filesVerdict (now (first .entry)) (now (second .entry)) (length (now (out .entry)))) (length (mergedOf (now (first .entry)) (now (second .entry))))) × (now (out .exit) ≡ leaves (filesVerdict (now (first .entry)) (now (second .entry)) (length (now (out .entry)))) (mergedOf (now (first .entry)) (now (second .entry))) (now (out .entry))) ⌝ }
+    ensures { λ r. ⌜ (meaning r ≡ byVerdict (filesVerdict (now (first .entry)) (now (second .entry)) (length (now (out .entry)))) (length (mergedOf (now (first .entry)) (now (second .entry))))) × (now (out .exit) ≡ leaves (filesVerdict (now (first .entry)) (now (second .entry)) (length (now (out .entry)))) (mergedOf (now (first .entry)) (now (second .entry))) (now (out .entry))) ⌝ }
 {
     let version = version_checked(first, second);
     let functions = functions_of(first) + functions_of(second);
@@ -93,7 +93,7 @@ fn merge_loaded(first: &[u8], second: &[u8], starts: &[u16; 2048], out: &mut [u8
 
 // Two procedure files as one, written into the output that is lent.
 pub fn merge(first: &[u8], second: &[u8], out: &mut [u8]) -> Merged
-    ensures { λ r. ⌜ (toldBy r ≡ answerOf (now (first .entry)) (now (second .entry)) (length (now (out .entry)))) × (now (out .exit) ≡ outputOf (now (first .entry)) (now (second .entry)) (now (out .entry))) ⌝ }
+    ensures { λ r. ⌜ (meaning r ≡ answerOf (now (first .entry)) (now (second .entry)) (length (now (out .entry)))) × (now (out .exit) ≡ outputOf (now (first .entry)) (now (second .entry)) (now (out .entry))) ⌝ }
 {
     let mut starts = [0u16; 2048];
     match load(first, &mut starts) {

@@ -32,8 +32,8 @@ KnownVersion mark s = IsVersion (getD s (length mark) 0 + 256 * getD s (length m
 -- "Changed answers" of a check of the file s, by its kind's mark and limit: with the size first, and now.
 pub data AnswerChange (mark : List ℕ) (limit : ℕ) (s : List ℕ) : Verdict → Verdict → Type 0 where
   -- "an overlong file with a wrong mark, 15 before, now 1"
-  markTold : {i : ℕ} → limit < length s → WrongMark mark s i → AnswerChange mark limit s (refused fileTooLong limit) (refused wrongMark i)
+  markRefused : {i : ℕ} → limit < length s → WrongMark mark s i → AnswerChange mark limit s (refused fileTooLong limit) (refused wrongMark i)
   -- "an overlong file with a right mark and an unknown version, 15 before, now 2"
-  versionTold : limit < length s → RightMark mark s → (KnownVersion mark s → ⊥) → AnswerChange mark limit s (refused fileTooLong limit) (refused wrongVersion (length mark))
+  versionRefused : limit < length s → RightMark mark s → (KnownVersion mark s → ⊥) → AnswerChange mark limit s (refused fileTooLong limit) (refused wrongVersion (length mark))
   -- "All others hold."
   held : {v : Verdict} → (limit < length s → RightMark mark s × KnownVersion mark s) → AnswerChange mark limit s v v

@@ -11,8 +11,8 @@ use lib.ListN.{length, getD, take, drop}
 use lib.Seq.{drop-cons, take-at, getD-take}
 use Rattle.parsing.specs.declared.Refusal.{Refusal}
 use Rattle.parsing.specs.Parser.{refusal, Parsed, read, refuse, andThen, Verdict, refused}
-use Rattle.parsing.specs.Fields.{marked, isVersion, version, within, head}
-use Rattle.parsing.specs.SizeFirst.{headSizeFirst, RightMark, WrongMark, AnswerChange, markTold, versionTold, held}
+use Rattle.parsing.specs.Fields.{marked, isVersion, version, head}
+use Rattle.parsing.specs.SizeFirst.{headSizeFirst, RightMark, WrongMark, AnswerChange, markRefused, versionRefused, held}
 use Rattle.parsing.specs.ParserLaws.{impossible, version-true, version-false}
 use Rattle.parsing.specs.BytesAtLaws.{bytes-at-marked}
 
@@ -23,7 +23,7 @@ wrong-not-right {mark} {s} {i} w right = w .wrong (sym (getD-take (length mark) 
 -- A refused mark, in a file that has bytes enough: the first wrong byte, counted from `at`.
 record FirstWrong (s ms : List ℕ) (at : ℕ) (r : Refusal) : Type 0 where
   i : ℕ
-  told : r ≡ refusal 1 (at + i)
+  refused-so : r ≡ refusal 1 (at + i)
   first : WrongMark ms (drop at s) i
 
 first-wrong : (s ms : List ℕ) (at : ℕ) {r : Refusal} → at + length ms ≤ length s → marked ms s at ≡ refuse r → FirstWrong s ms at r
@@ -41,11 +41,11 @@ first-wrong s (m ∷ ms) at {r} h e =
         let p : at + 1 + g .i ≡ at + suc (g .i) = omega arith in
         let l = g .first .inside in
         let b : getD s at 0 ∷ take (g .i) (drop (at + 1) s) ≡ m ∷ take (g .i) ms = cc (eqb-true (getD s at 0) m j, g .first .before) in
-        record { i = suc (g .i); told = g .told ∙ ap (refusal 1) p; first = rw here (record { inside = omega arith; before = b; wrong = g .first .wrong }) }
+        record { i = suc (g .i); refused-so = g .refused-so ∙ ap (refusal 1) p; first = rw here (record { inside = omega arith; before = b; wrong = g .first .wrong }) }
     by false j f w =
         let p : at ≡ at + 0 = omega arith in
         let t : refusal 1 at ≡ r = cc in
-        record { i = 0; told = sym t ∙ ap (refusal 1) p; first = rw here (record { inside = omega arith; before = refl; wrong = eqb-false (getD s at 0) m j }) }
+        record { i = 0; refused-so = sym t ∙ ap (refusal 1) p; first = rw here (record { inside = omega arith; before = refl; wrong = eqb-false (getD s at 0) m j }) }
 
 module _ (mark : List ℕ) (limit : ℕ) (s : List ℕ) where
   -- A file within the limit: both orders read it alike.
@@ -67,8 +67,8 @@ module _ (mark : List ℕ) (limit : ℕ) (s : List ℕ) where
 
   -- A check with this head: a refusal of the head is its answer, and what stands behind the head is the same in both.
   module _ (room : length mark + 2 ≤ limit) {old new : Verdict}
-      (oldTold : (r : Refusal) → headSizeFirst mark limit s 0 ≡ refuse r → old ≡ refused (r .number) (r .place))
-      (newTold : (r : Refusal) → head mark limit s 0 ≡ refuse r → new ≡ refused (r .number) (r .place))
+      (oldRefused : (r : Refusal) → headSizeFirst mark limit s 0 ≡ refuse r → old ≡ refused (r .number) (r .place))
+      (newRefused : (r : Refusal) → head mark limit s 0 ≡ refuse r → new ≡ refused (r .number) (r .place))
       (same : head mark limit s 0 ≡ headSizeFirst mark limit s 0 → new ≡ old)
     where
       module _ (long : limit < length s) where
@@ -77,7 +77,7 @@ module _ (mark : List ℕ) (limit : ℕ) (s : List ℕ) where
         wrong-mark {r} e =
             let f = first-wrong s mark 0 (omega arith) e in
             let p : 0 + f .i ≡ f .i = omega arith in
-            rw (oldTold _ (size-first long), newTold r (rw e), f .told ∙ ap (refusal 1) p) (markTold long (f .first))
+            rw (oldRefused _ (size-first long), newRefused r (rw e), f .refused-so ∙ ap (refusal 1) p) (markRefused long (f .first))
 
         right-mark : marked mark s 0 ≡ read tt (length mark) → RightMark mark s → AnswerChange mark limit s old new
         unfolding head version
@@ -88,8 +88,8 @@ module _ (mark : List ℕ) (limit : ℕ) (s : List ℕ) where
                 rw (same (rw (e, le-leb (length mark + 2) (length s) (omega arith), j, lt-leb (length s) limit long) (sym (size-first long))))
                 (held (λ h. (right, version-true _ j)))
             by false j =
-                rw (oldTold _ (size-first long), newTold (refusal 2 (length mark)) (rw (e, le-leb (length mark + 2) (length s) (omega arith), j)))
-                (versionTold long right (version-false _ j))
+                rw (oldRefused _ (size-first long), newRefused (refusal 2 (length mark)) (rw (e, le-leb (length mark + 2) (length s) (omega arith), j)))
+                (versionRefused long right (version-false _ j))
 
       pub changed : AnswerChange mark limit s old new
       changed = by (leb (length s) limit) refl (marked mark s 0) refl
@@ -106,6 +106,6 @@ module _ (mark : List ℕ) (limit : ℕ) (s : List ℕ) where
 
 -- A file within the limit.
 pub changed-within : {mark : List ℕ} {limit : ℕ} {s : List ℕ} {old new : Verdict} → AnswerChange mark limit s old new → length s ≤ limit → new ≡ old
-changed-within (markTold long w) h = absurd (omega arith)
-changed-within (versionTold long m v) h = absurd (omega arith)
+changed-within (markRefused long w) h = absurd (omega arith)
+changed-within (versionRefused long m v) h = absurd (omega arith)
 changed-within (held f) h = refl

@@ -28,9 +28,9 @@ module _ (s starts : List ℕ) where
   layout-whole bytes next whole = let r = past-read (program s 0) whole in laid-by s bytes (r .what) next (r .is) (program-fits s (r .is)) .0
 
   -- Behind a whole layout, names decide.
-  module _ (L : Laid s) (r : Checked) (told : verdictOf r ≡ firstWrong (namesOf (programOf s))) where
+  module _ (L : Laid s) (r : Checked) (bareStop : verdictOf r ≡ firstWrong (namesOf (programOf s))) where
     check-named : verdictOf r ≡ checkOf s
-    check-named = told ∙ sym (check-layout s ∙ ap named (L .layout))
+    check-named = bareStop ∙ sym (check-layout s ∙ ap named (L .layout))
 
     pub load-wrong : (q : Refusal) → r ≡ Rattle.parsing.specs.declared.Checked.the-variants.Refused q
         → (refused (q .number) (q .place) ≡ checkOf s) × LoadedOr (checkOf s) s starts starts

@@ -22,7 +22,7 @@ use Rattle.procedure_layout.specs.After.{afterOf}
 use Rattle.procedure_file.specs.Places.{startOf, blockOf, handlerOf, receiverOf}
 
 -- An operation of function f stands at an offset: the bytes from there on are the writing of the rest of a block, which is well-formed.
-pub record Stands (s : List ℕ) (f at : ℕ) : Type 0 where
+pub record OperationsAt (s : List ℕ) (f at : ℕ) : Type 0 where
   pub there : f < length (programOf s)
   pub past : ℕ
   pub written : drop at s ≡ blockBytes (restAt s at) ++ drop past s
@@ -46,7 +46,7 @@ pub record FileInvariant (s : List ℕ) : Type 0 where
   pub fileBound : length s ≤ fileLimit
   pub function : (f : ℕ) → f < length (programOf s) → getElem? (programOf s) f ≡ some (functionOf (programOf s) f)
   -- Where its blocks stand: label 0 is the entry block.
-  pub start : (f l : ℕ) → f < length (programOf s) → l ≤ length (functionOf (programOf s) f .blocks) → Stands s f (startOf (programOf s) f l)
+  pub start : (f l : ℕ) → f < length (programOf s) → l ≤ length (functionOf (programOf s) f .blocks) → OperationsAt s f (startOf (programOf s) f l)
   pub block : (f l : ℕ) → f < length (programOf s) → l ≤ length (functionOf (programOf s) f .blocks)
       → restAt s (startOf (programOf s) f l) ≡ blockOf (functionOf (programOf s) f) l
   pub labelled : (f l : ℕ) → IsLabel (length (functionOf (programOf s) f .blocks)) l
@@ -55,11 +55,11 @@ pub record FileInvariant (s : List ℕ) : Type 0 where
   pub receiver : (f l : ℕ) → f < length (programOf s) → l ≤ length (functionOf (programOf s) f .blocks)
       → MayName (variables (functionOf (programOf s) f)) (receiverOf (functionOf (programOf s) f) l)
   -- The operation at an offset where one stands.
-  pub inside : (f at : ℕ) → Stands s f at → at < length s
-  pub operation : (f at : ℕ) (r : Refusal) → Stands s f at → operationAt s at ≡ Refused r → ⊥
-  pub numbers : (f at : ℕ) (o : Operation) → Stands s f at → operationAt s at ≡ o → NumbersInRange s at o
-  pub next : (f at m : ℕ) → Stands s f at → afterOf (operationAt s at) ≡ Onward m → Stands s f m
-  pub forward : (f at m : ℕ) → Stands s f at → afterOf (operationAt s at) ≡ Onward m → (at < m) × (m ≤ length s)
+  pub inside : (f at : ℕ) → OperationsAt s f at → at < length s
+  pub operation : (f at : ℕ) (r : Refusal) → OperationsAt s f at → operationAt s at ≡ Refused r → ⊥
+  pub numbers : (f at : ℕ) (o : Operation) → OperationsAt s f at → operationAt s at ≡ o → NumbersInRange s at o
+  pub next : (f at m : ℕ) → OperationsAt s f at → afterOf (operationAt s at) ≡ Onward m → OperationsAt s f m
+  pub forward : (f at m : ℕ) → OperationsAt s f at → afterOf (operationAt s at) ≡ Onward m → (at < m) × (m ≤ length s)
   -- The rest of a block, by cases on the operation.
   pub rest : (at : ℕ) → restAt s at ≡ restFrom s at (operationAt s at) (restAt s)
   -- A call has as many arguments as its count says.

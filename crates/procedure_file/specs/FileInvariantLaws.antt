@@ -25,7 +25,7 @@ use Rattle.procedure_layout.specs.Rest.{restFrom, restAt}
 use Rattle.procedure_layout.specs.After.{afterOf}
 use Rattle.procedure_file.specs.Places.{startOf, noLabelled, blockOf, handlerOf, receiverOf}
 use Rattle.parsing.specs.Bytes.{Bytes}
-use Rattle.procedure_file.specs.FileInvariant.{Stands, FileInvariant}
+use Rattle.procedure_file.specs.FileInvariant.{OperationsAt, FileInvariant}
 use Rattle.procedure_layout.specs.WalkLaws.{rest-law}
 use Rattle.procedure_layout.specs.LayoutLaws.{onward-moves}
 use Rattle.procedure_layout.specs.BlockLaws.{ReadBlock, readConstant, readCopy, readDifference, readCall, readGoto, readReturn, readBranch, readRaise, readRaiseValue, read-block}
@@ -38,7 +38,7 @@ use Rattle.procedure_operations.specs.OperationLaws.{op-constant, op-copy, op-d
 use Rattle.procedure_file.specs.TableLaws.{params-bound, locals-bound, blocks-bound}
 
 -- Where an operation stands, its block was read.
-stands-read : (s : List ℕ) (f at : ℕ) (w : Stands s f at) → ReadBlock s at (restAt s at) (at + length (blockBytes (restAt s at)))
+stands-read : (s : List ℕ) (f at : ℕ) (w : OperationsAt s f at) → ReadBlock s at (restAt s at) (at + length (blockBytes (restAt s at)))
 stands-read s f at w = read-block s at (reads-block (restAt s at) s (w .values) at (drop (w .past) s) (w .written))
 
 module _ (s : List ℕ) (bytes : Bytes s) where
@@ -48,7 +48,7 @@ module _ (s : List ℕ) (bytes : Bytes s) where
   abbrev Formed : ℕ → Block → Type 0
   Formed f b = WellFormedBlock P (variables (functionOf P f)) (length (functionOf P f .blocks)) b
 
-  read-stands : (f at : ℕ) (b : Block) (past : ℕ) → f < length P → ReadBlock s at b past → Formed f b → Stands s f at
+  read-stands : (f at : ℕ) (b : Block) (past : ℕ) → f < length P → ReadBlock s at b past → Formed f b → OperationsAt s f at
   read-stands f at b past h r w =
       let e : restAt s at ≡ b = rest-is s r in
       record {
@@ -60,7 +60,7 @@ module _ (s : List ℕ) (bytes : Bytes s) where
       }
 
   -- The next operation of a block stands where the operation leads.
-  by-read : (f at m : ℕ) {b : Block} {past : ℕ} → f < length P → ReadBlock s at b past → Formed f b → afterOf (operationAt s at) ≡ Onward m → Stands s f m
+  by-read : (f at m : ℕ) {b : Block} {past : ℕ} → f < length P → ReadBlock s at b past → Formed f b → afterOf (operationAt s at) ≡ Onward m → OperationsAt s f m
   by-read f at m h (readConstant e i r) w a =
       let q : at + 6 ≡ m = cc (op-constant s at e i) in rw (← q) (read-stands f (at + 6) _ _ h r (w .1))
   by-read f at m h (readCopy e i r) w a =

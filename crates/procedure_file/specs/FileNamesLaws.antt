@@ -73,10 +73,10 @@ module _ (ps s starts : List ℕ) (f v labels : ℕ) (w : Naming s starts f v la
   first-label = omega arith
 
   -- The entry block.
-  module _ (r : Checked) (at : ℕ) (start : at ≡ startOf P f 0) (told : verdictOf r ≡ firstWrong (blockNames ps v labels at (restAt s at))) where
-    entry-told : verdictOf r ≡ firstWrong (blockNames ps v labels (startOf P f 0) (F .entry))
-    entry-told =
-        told ∙ ap (λ (k : ℕ). firstWrong (blockNames ps v labels k (restAt s k))) start
+  module _ (r : Checked) (at : ℕ) (start : at ≡ startOf P f 0) (bareStop : verdictOf r ≡ firstWrong (blockNames ps v labels at (restAt s at))) where
+    entry-is : verdictOf r ≡ firstWrong (blockNames ps v labels (startOf P f 0) (F .entry))
+    entry-is =
+        bareStop ∙ ap (λ (k : ℕ). firstWrong (blockNames ps v labels k (restAt s k))) start
         ∙ ap (λ (b : Block). firstWrong (blockNames ps v labels (startOf P f 0) b)) (rest-at 0 (omega arith))
 
     parts : functionVerdict ps s f ≡ orElse (firstWrong (blockNames ps v labels (startOf P f 0) (F .entry))) (left 0)
@@ -85,14 +85,14 @@ module _ (ps s starts : List ℕ) (f v labels : ℕ) (w : Naming s starts f v la
         ∙ rw (← w .labelsAre, ← w .variablesAre, first-label)
 
     pub entry-wrong : (q : Refusal) → r ≡ Rattle.parsing.specs.declared.Checked.the-variants.Refused q → refused (q .number) (q .place) ≡ functionVerdict ps s f
-    entry-wrong q x = by-refused r q _ (left 0) (functionVerdict ps s f) entry-told x parts
+    entry-wrong q x = by-refused r q _ (left 0) (functionVerdict ps s f) entry-is x parts
 
     pub entry-right : r ≡ Accepted → left 0 ≡ functionVerdict ps s f
-    entry-right x = by-accepted r _ (left 0) (functionVerdict ps s f) entry-told x parts
+    entry-right x = by-accepted r _ (left 0) (functionVerdict ps s f) entry-is x parts
 
   -- One labelled block.
   module _ (l : ℕ) (less : l < labels) (r : Checked)
-      (told : verdictOf r ≡ labelledVerdict ps s v labels (handlerOf F (l + 1)) (receiverOf F (l + 1)) (startOf P f (l + 1))) where
+      (bareStop : verdictOf r ≡ labelledVerdict ps s v labels (handlerOf F (l + 1)) (receiverOf F (l + 1)) (startOf P f (l + 1))) where
     split : left l ≡ orElse (labelledVerdict ps s v labels (handlerOf F (l + 1)) (receiverOf F (l + 1)) (startOf P f (l + 1))) (left (l + 1))
     split =
         let B = getD (F .blocks) l noLabelled in
@@ -105,10 +105,10 @@ module _ (ps s starts : List ℕ) (f v labels : ℕ) (w : Naming s starts f v la
         (labelledNames (F .version) ps v labels (labelPlace P f (suc l)) (drop (suc l) (F .blocks))))
 
     pub label-wrong : (q : Refusal) → r ≡ Rattle.parsing.specs.declared.Checked.the-variants.Refused q → refused (q .number) (q .place) ≡ left l
-    label-wrong q x = by-refused r q _ (left (l + 1)) (left l) told x split
+    label-wrong q x = by-refused r q _ (left (l + 1)) (left l) bareStop x split
 
     pub label-right : r ≡ Accepted → left (l + 1) ≡ left l
-    label-right x = by-accepted r _ (left (l + 1)) (left l) told x split
+    label-right x = by-accepted r _ (left (l + 1)) (left l) bareStop x split
 
   pub labels-done : (l : ℕ) → labels ≤ l → accepted ≡ left l
   labels-done l h = rw (drop-of-length-le (F .blocks) {i = l} (omega (arith, w .labelsAre)))
@@ -128,7 +128,7 @@ module _ (s params : List ℕ) (L : Laid s) (paramsAre : params ≡ arities (pro
   unfolding namesOf functionPlace
   all-names = ap (λ (ps : List ℕ). firstWrong (functionsNames ps 6 (programOf s))) paramsAre
 
-  module _ (f : ℕ) (less : f < length params) (r : Checked) (told : verdictOf r ≡ functionVerdict params s f) where
+  module _ (f : ℕ) (less : f < length params) (r : Checked) (bareStop : verdictOf r ≡ functionVerdict params s f) where
     split-functions : functionsVerdict params s f ≡ orElse (functionVerdict params s f) (functionsVerdict params s (f + 1))
     split-functions =
         let P = programOf s in
@@ -139,10 +139,10 @@ module _ (s params : List ℕ) (L : Laid s) (paramsAre : params ≡ arities (pro
         (first-append (functionNames params (functionPlace P f) (functionOf P f)) (functionsNames params (functionPlace P (suc f)) (drop (suc f) P)))
 
     pub function-wrong : (q : Refusal) → r ≡ Rattle.parsing.specs.declared.Checked.the-variants.Refused q → refused (q .number) (q .place) ≡ functionsVerdict params s f
-    function-wrong q x = by-refused r q _ (functionsVerdict params s (f + 1)) (functionsVerdict params s f) told x split-functions
+    function-wrong q x = by-refused r q _ (functionsVerdict params s (f + 1)) (functionsVerdict params s f) bareStop x split-functions
 
     pub function-right : r ≡ Accepted → functionsVerdict params s (f + 1) ≡ functionsVerdict params s f
-    function-right x = by-accepted r _ (functionsVerdict params s (f + 1)) (functionsVerdict params s f) told x split-functions
+    function-right x = by-accepted r _ (functionsVerdict params s (f + 1)) (functionsVerdict params s f) bareStop x split-functions
 
   pub functions-done : (f : ℕ) → length params ≤ f → accepted ≡ functionsVerdict params s f
   functions-done f h = rw (drop-of-length-le (programOf s) {i = f} (omega (arith, params-long)))

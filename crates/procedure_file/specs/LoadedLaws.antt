@@ -11,9 +11,9 @@ use Rattle.procedure_file.specs.Loaded.{Loaded, LoadedOr}
 use Rattle.procedure_file.specs.FileInvariant.{FileInvariant}
 use Rattle.procedure_file.specs.FileInvariantLaws.{invariant}
 
-module _ (s starts starts′ : List ℕ) (r : Checked) (told : verdictOf r ≡ checkOf s) (lent : LoadedOr (checkOf s) s starts starts′) where
+module _ (s starts starts′ : List ℕ) (r : Checked) (bareStop : verdictOf r ≡ checkOf s) (lent : LoadedOr (checkOf s) s starts starts′) where
   answer : (c : Checked) → r ≡ c → LoadedOr (verdictOf c) s starts starts′
-  answer c e = subst (λ (v : Verdict). LoadedOr v s starts starts′) (sym told ∙ ap verdictOf e) lent
+  answer c e = subst (λ (v : Verdict). LoadedOr v s starts starts′) (sym bareStop ∙ ap verdictOf e) lent
 
   pub loaded : r ≡ Accepted → Loaded s starts′
   loaded e = answer Accepted e

@@ -12,7 +12,7 @@ use Rattle.parsing.specs.Parser.{read, andThen, many, joined}
 use Rattle.parsing.specs.Fields.{byte, IsVersion, versionOf, head, count, ended, valueOf, valueAt}
 use Rattle.parsing.specs.ParserLaws.{sequence, ReadMany, none, one, read-many, read-byte, read-count}
 use Rattle.parsing.specs.BytesAtLaws.{BytesAt, bytes-at-join, bytes-at-cons, bytes-at-byte, span, bytes-at-span, bytes-at-many, read-head, read-ended}
-use Rattle.semantics.specs.Program.{Variable, Block, Labelled, Function, Program, functionOf, programVersion}
+use Rattle.semantics.specs.Program.{Variable, Block, Labelled, Function, Program, programVersion}
 use Rattle.semantics.specs.WellFormed.{All}
 use Rattle.procedure_layout.specs.Layout.{spf, fileLimit, argumentsAt, block, receiver, bytesBefore, labelled, Heading, heading, function, functions, program}
 use Rattle.parsing.specs.Bytes.{Bytes, valueBytes}

@@ -222,21 +222,21 @@ module _ (ps : List ℕ) (v n : ℕ) (s : List ℕ) where
       wrong (isRefused r) e = e
 
   -- A turn of the loop over a block.
-  module _ (at : ℕ) (o : Operation) (r : Checked) (is : o ≡ operationAt s at) (told : verdictOf r ≡ firstWrong (operationNames ps v n s at o)) where
-    first-told : verdictOf r ≡ firstWrong (operationNames ps v n s at (operationAt s at))
-    first-told = rw is at told
+  module _ (at : ℕ) (o : Operation) (r : Checked) (is : o ≡ operationAt s at) (bareStop : verdictOf r ≡ firstWrong (operationNames ps v n s at o)) where
+    first-is : verdictOf r ≡ firstWrong (operationNames ps v n s at (operationAt s at))
+    first-is = rw is at bareStop
 
     pub turn-wrong : (q : Refusal) → r ≡ Rattle.parsing.specs.declared.Checked.the-variants.Refused q → refused (q .number) (q .place) ≡ blockVerdict at
-    turn-wrong q e = block-wrong at (q .number) (q .place) (sym (ap verdictOf e) ∙ first-told)
+    turn-wrong q e = block-wrong at (q .number) (q .place) (sym (ap verdictOf e) ∙ first-is)
 
     pub turn-on : (next : ℕ) (a : After) → r ≡ Accepted → a ≡ afterOf o → a ≡ Onward next → blockVerdict next ≡ blockVerdict at
     turn-on next a e f g =
-        let w : accepted ≡ firstWrong (operationNames ps v n s at (operationAt s at)) = sym (ap verdictOf e) ∙ first-told in
+        let w : accepted ≡ firstWrong (operationNames ps v n s at (operationAt s at)) = sym (ap verdictOf e) ∙ first-is in
         sym (block-on at next (ap afterOf (sym is) ∙ sym f ∙ g) ∙ ap (λ u. orElse u (blockVerdict next)) (sym w))
 
     pub turn-last : (a : After) → r ≡ Accepted → a ≡ afterOf o → ((next : ℕ) → a ≡ Onward next → ⊥) → accepted ≡ blockVerdict at
     turn-last a e f g =
-        sym (ap verdictOf e) ∙ first-told ∙ sym (block-last at (λ next w. g next (f ∙ ap afterOf is ∙ w)))
+        sym (ap verdictOf e) ∙ first-is ∙ sym (block-last at (λ next w. g next (f ∙ ap afterOf is ∙ w)))
 
 pub not-ended : (a : After) (m next : ℕ) → a ≡ Ended m → a ≡ Onward next → ⊥
 not-ended a m next e f = impossible (cc)

@@ -16,7 +16,7 @@ use Rattle.procedure_layout.specs.Layout.{spf}
 use Rattle.procedure_file.specs.Check.{checkOf}
 use Rattle.translator.specs.Translated.{translationOf, roomVerdict}
 use Rattle.runs.specs.Tells.{Tells, refuses, tells}
-use Rattle.agreement.specs.Sides.{Told, sidesTell}
+use Rattle.agreement.specs.Sides.{SidesSummary, sidesTell}
 
 -- A field of 16 bits, and one of 32, the low byte first.
 abbrev pub pairOf : ℕ → ℕ → ℕ
@@ -52,7 +52,7 @@ abbrev pub headerOf : List ℕ → ℕ
 headerOf s = 4 * countOf s + 7
 
 -- Both runs on a file of a version, or the refusal.
-unfoldable pub sidesText : ℕ → Tells Told → List ℕ
+unfoldable pub sidesText : ℕ → Tells SidesSummary → List ℕ
 sidesText version (refuses number place) = refusedText number place
 sidesText version (tells t) = bothText version (t .target) (t .bench .result .stop) (t .bench .result .steps) (t .controller .stop) (t .controller .steps)
 

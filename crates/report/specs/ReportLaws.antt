@@ -23,12 +23,12 @@ use Rattle.memory.specs.LayLaws.{length-lay}
 use Rattle.decimal.specs.WroteText.{WroteText}
 use Rattle.text.specs.Text.{bothText, refusedText, noHeaderText}
 use Rattle.runs.specs.Stopped.{stoppedAs}
-use Rattle.runs.specs.Tells.{Tells, tellsBy}
+use Rattle.runs.specs.Tells.{Tells, byVerdict}
 use Rattle.procedure_layout.specs.Layout.{spf}
 use Rattle.procedure_file.specs.Check.{checkOf}
 use Rattle.translator.specs.Translated.{translationOf, roomVerdict}
 use Rattle.agreement.specs.declared.Sides.{Sides}
-use Rattle.agreement.specs.Sides.{Told, saidBy, sidesTold, sidesTell}
+use Rattle.agreement.specs.Sides.{SidesSummary, summaryOf, meaning, sidesTell}
 use Rattle.report.specs.Report.{pairOf, wordOf, countOf, argumentAt, argumentsOf, depthOf, budgetOf, headerOf, sidesText, textBy, loadedText, fileVerdict, fileText, textOf}
 
 -- ── Arguments ───────────────────────────────────────────────────────────────────────────────────
@@ -74,14 +74,14 @@ wrote-within {at} {r} {w} {d} {d′} W =
 
 -- ── What an answer of the call prints ───────────────────────────────────────────────────────────
 
-pub told-refused : (version : ℕ) (a : Sides) {r : Refusal} → a .verdict ≡ Refused r → refusedText (r .number) (r .place) ≡ sidesText version (sidesTold a)
+pub meaning-refused : (version : ℕ) (a : Sides) {r : Refusal} → a .verdict ≡ Refused r → refusedText (r .number) (r .place) ≡ sidesText version (meaning a)
 unfolding sidesText
-told-refused version a {r} e = ap (λ (v : Checked). sidesText version (tellsBy (verdictOf v) (saidBy a))) (sym e)
+meaning-refused version a {r} e = ap (λ (v : Checked). sidesText version (byVerdict (verdictOf v) (summaryOf a))) (sym e)
 
-pub told-both : (version : ℕ) (a : Sides) → a .verdict ≡ Accepted
-    → bothText version (a .target) (stoppedAs (a .bench .stopped)) (a .bench .steps) (stoppedAs (a .controller .stopped)) (a .controller .steps) ≡ sidesText version (sidesTold a)
+pub meaning-both : (version : ℕ) (a : Sides) → a .verdict ≡ Accepted
+    → bothText version (a .target) (stoppedAs (a .bench .stopped)) (a .bench .steps) (stoppedAs (a .controller .stopped)) (a .controller .steps) ≡ sidesText version (meaning a)
 unfolding sidesText
-told-both version a e = ap (λ (v : Checked). sidesText version (tellsBy (verdictOf v) (saidBy a))) (sym e)
+meaning-both version a e = ap (λ (v : Checked). sidesText version (byVerdict (verdictOf v) (summaryOf a))) (sym e)
 
 -- ── A file ──────────────────────────────────────────────────────────────────────────────────────
 
@@ -99,7 +99,7 @@ module _ (s : List ℕ) (args : List ℤ) (depth budget : ℕ) where
     unfolding loadedText
     room-refused q = checked-text _ (e ∙ ap (λ (k : ℕ). roomVerdict k 8192) is) q
 
-    pub loaded-sides : c ≡ Accepted → {t : Tells Told} {v : ℕ} (f r k : ℕ) → v ≡ versionOf s → t ≡ sidesTell s 0 args depth budget f r k → f ≡ 12288 → r ≡ 8192 → k ≡ 12288 → sidesText v t ≡ loadedText s args depth budget
+    pub loaded-sides : c ≡ Accepted → {t : Tells SidesSummary} {v : ℕ} (f r k : ℕ) → v ≡ versionOf s → t ≡ sidesTell s 0 args depth budget f r k → f ≡ 12288 → r ≡ 8192 → k ≡ 12288 → sidesText v t ≡ loadedText s args depth budget
     unfolding loadedText
     loaded-sides q {t} f r k ev g ef er ek = ap (λ (n : ℕ). sidesText n t) ev ∙ ap (sidesText (versionOf s)) (g ∙ cc (ef, er, ek)) ∙ accepted-text _ (e ∙ ap (λ (k : ℕ). roomVerdict k 8192) is) q
 

@@ -22,7 +22,7 @@ ghost use lib.ListN.{length, take};
 ghost use Rattle.text.specs.Text.{refusedText};
 ghost use Rattle.decimal.specs.WroteText.{WroteText};
 ghost use Rattle.procedure_file.specs.Loaded.{Loaded};
-ghost use Rattle.agreement.specs.Sides.{sidesTold};
+ghost use Rattle.agreement.specs.Sides.{meaning};
 ghost use Rattle.report.specs.Report.{argumentAt, argumentsOf, sidesText, loadedText, fileText, textOf};
 
 // Argument i of the input.
@@ -57,7 +57,7 @@ fn write_refusal(out: &mut [u8], r: Refusal) -> usize
 // The three lines of both runs on a file of a version, or the refusal.
 fn write_sides(out: &mut [u8], version: u8, a: Sides) -> usize
     requires { ⌜ 256 ≤ length (now out) ⌝ }
-    ensures { λ r. ⌜ WroteText 0 (sidesText version (sidesTold a)) (now (out .entry)) r (now (out .exit)) ⌝ }
+    ensures { λ r. ⌜ WroteText 0 (sidesText version (meaning a)) (now (out .entry)) r (now (out .exit)) ⌝ }
 {
     let verdict = a.verdict;
     match verdict {

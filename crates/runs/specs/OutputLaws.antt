@@ -9,7 +9,7 @@ use Rattle.parsing.specs.declared.Checked.{Checked}
 use Rattle.parsing.specs.declared.Checked.the-variants.{Accepted, Refused}
 use Rattle.parsing.specs.Parser.{Verdict, verdictOf, orElse}
 use Rattle.memory.specs.Lay.{lay}
-use Rattle.runs.specs.Tells.{Tells, refuses, tells, tellsBy, leaves}
+use Rattle.runs.specs.Tells.{Tells, refuses, tells, byVerdict, leaves}
 
 -- Written at the front: the part, then what stood behind it.
 pub lay-front : (w d : List ℕ) → lay 0 w d ≡ w ++ drop (length w) d
@@ -18,7 +18,7 @@ lay-front w d = ap (λ (k : ℕ). w ++ drop k d) (zero-add (length w))
 
 -- The answer x and the output d′ under a verdict.
 pub record Answered (v : Verdict) (w d : List ℕ) (x : Tells ℕ) (d′ : List ℕ) : Type 0 where
-  pub answer : x ≡ tellsBy v (length w)
+  pub answer : x ≡ byVerdict v (length w)
   pub output : d′ ≡ leaves v w d
 
 module _ (w d : List ℕ) {c : Checked} {v : Verdict} (e : verdictOf c ≡ v) where

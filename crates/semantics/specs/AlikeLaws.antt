@@ -9,7 +9,7 @@ use lib.Dec.{leb}
 use borrow.Author.Tests.{leb-true, leb-false}
 use lib.IntN.{ℤ}
 use Rattle.semantics.specs.Program.{FunctionNumber, Program, functionOf}
-use Rattle.semantics.specs.Run.{Outcome, next, end, tooDeep, stuck, Stop, ended, spent, deep, broken, IsSpent, IsDeep, IsBroken, Result, told, oneMoreIfDeep, taken, run, Forever}
+use Rattle.semantics.specs.Run.{Outcome, next, end, tooDeep, stuck, Stop, ended, spent, deep, broken, IsSpent, IsDeep, IsBroken, Result, bareStop, oneMoreIfDeep, taken, run, Forever, summary}
 use Rattle.semantics.specs.Bench.{State, begun, step, bench}
 use Rattle.semantics.specs.Code.{Code}
 use Rattle.semantics.specs.Controller.{Control, started, controlStep, controller}
@@ -30,17 +30,17 @@ is-spent : (y : Stop (Unit {0})) → y ≡ spent tt → IsSpent y
 is-spent y q = subst (λ (z : Stop (Unit {0})). IsSpent z) (sym q) tt
 
 module _ {S : Type 0} where
-  told-spent : (x : Stop S) → IsSpent x ↔ (told x ≡ spent tt)
-  told-spent (ended e) = (λ i. absurd i, is-spent (ended e))
-  told-spent (spent s) = (λ i. refl, λ q. tt)
-  told-spent (deep s) = (λ i. absurd i, is-spent (deep tt))
-  told-spent (broken s) = (λ i. absurd i, is-spent (broken tt))
+  bare-spent : (x : Stop S) → IsSpent x ↔ (bareStop x ≡ spent tt)
+  bare-spent (ended e) = (λ i. absurd i, is-spent (ended e))
+  bare-spent (spent s) = (λ i. refl, λ q. tt)
+  bare-spent (deep s) = (λ i. absurd i, is-spent (deep tt))
+  bare-spent (broken s) = (λ i. absurd i, is-spent (broken tt))
 
-  pub one-more-told : (x : Stop S) → oneMoreIfDeep (told x) ≡ oneMoreIfDeep x
-  one-more-told (ended e) = refl
-  one-more-told (spent s) = refl
-  one-more-told (deep s) = refl
-  one-more-told (broken s) = refl
+  pub one-more-bare : (x : Stop S) → oneMoreIfDeep (bareStop x) ≡ oneMoreIfDeep x
+  one-more-bare (ended e) = refl
+  one-more-bare (spent s) = refl
+  one-more-bare (deep s) = refl
+  one-more-bare (broken s) = refl
 
   spent-or-not : (x : Stop S) → IsSpent x ⊎ (¬ IsSpent x)
   spent-or-not (ended e) = inr (λ i. i)
@@ -53,10 +53,7 @@ module _ {S : Type 0} where
   one-more-bound (spent s) k n l h = omega arith
   one-more-bound (deep s) k n l h = let q : k < n = h tt in omega arith
   one-more-bound (broken s) k n l h = omega arith
-
   -- A result without its state.
-  abbrev summary : Result S → Result (Unit {0})
-  summary r = record { stop = told (r .stop); steps = r .steps }
 
 -- A spent run took all its steps.
 spent-steps : {S : Type 0} (step : S → Outcome S) (n : ℕ) (s : S) → IsSpent (run step n s .stop) → run step n s .steps ≡ n
@@ -74,8 +71,8 @@ spent-steps {S} step (suc n) s i = by (step s) (λ (t : S). spent-steps step n t
 
 -- What a controller answers to the budget n, where the bench with that budget stopped as x and k is bench steps + extras: as the bench, if n
 -- reaches so far.
-abbrev toldBy : Stop (Unit {0}) → ℕ → ℕ → Result (Unit {0})
-toldBy x k n = cond (leb (k + oneMoreIfDeep x) n) (record { stop = x; steps = k }) (record { stop = spent tt; steps = n })
+abbrev summaryAt : Stop (Unit {0}) → ℕ → ℕ → Result (Unit {0})
+summaryAt x k n = cond (leb (k + oneMoreIfDeep x) n) (record { stop = x; steps = k }) (record { stop = spent tt; steps = n })
 
 module _ {P : Program} {f : FunctionNumber} {Q : Code} {g : ℕ} {args : List ℤ} {d : ℕ} (A : Paired P f Q g args d) (n : ℕ) where
   abbrev b : Result State
@@ -97,8 +94,8 @@ module _ {P : Program} {f : FunctionNumber} {Q : Code} {g : ℕ} {args : List �
   bench-spent : IsSpent (C needed .stop) → b .steps ≡ n
   unfolding bench
   bench-spent i =
-      let e : told (b .stop) ≡ spent tt = sym (at-needed .stops .alike) ∙ told-spent (C needed .stop) .0 i in
-      spent-steps (step P d) n (begun f (functionOf P f) args []) (told-spent (b .stop) .1 e)
+      let e : bareStop (b .stop) ≡ spent tt = sym (at-needed .stops .alike) ∙ bare-spent (C needed .stop) .0 i in
+      spent-steps (step P d) n (begun f (functionOf P f) args []) (bare-spent (b .stop) .1 e)
 
   -- With the budget needed or a larger one it stops as the bench.
   stopped : needed ≤ n → C n ≡ C needed
@@ -121,7 +118,7 @@ module _ {P : Program} {f : FunctionNumber} {Q : Code} {g : ℕ} {args : List �
   not-yet l = by (spent-or-not (C n .stop))
     where
       same-one : oneMoreIfDeep (C needed .stop) ≡ oneMoreIfDeep (b .stop)
-      same-one = sym (one-more-told (C needed .stop)) ∙ (ap oneMoreIfDeep (at-needed .stops .alike) ∙ one-more-told (b .stop))
+      same-one = sym (one-more-bare (C needed .stop)) ∙ (ap oneMoreIfDeep (at-needed .stops .alike) ∙ one-more-bare (b .stop))
 
       by : IsSpent (C n .stop) ⊎ (¬ IsSpent (C n .stop)) → IsSpent (C n .stop)
       by (inl i) = i
@@ -132,30 +129,30 @@ module _ {P : Program} {f : FunctionNumber} {Q : Code} {g : ℕ} {args : List �
           let o = same-one in
           absurd (omega arith)
 
-  told-by-bench : summary (C n) ≡ toldBy (told (b .stop)) count n
-  told-by-bench = rw (one-more-told (b .stop)) (by (leb needed n) refl)
+  summary-by-bench : summary (C n) ≡ summaryAt (bareStop (b .stop)) count n
+  summary-by-bench = rw (one-more-bare (b .stop)) (by (leb needed n) refl)
     where
-      by : (c : Bool) → leb needed n ≡ c → summary (C n) ≡ cond c (record { stop = told (b .stop); steps = count }) (record { stop = spent tt; steps = n })
+      by : (c : Bool) → leb needed n ≡ c → summary (C n) ≡ cond c (record { stop = bareStop (b .stop); steps = count }) (record { stop = spent tt; steps = n })
       by true e = ap summary (stopped (leb-true needed n e)) ∙ (λ i. record { stop = at-needed .stops .alike i; steps = at-needed .steps i })
       by false e =
           let s : IsSpent (C n .stop) = not-yet (leb-false needed n e) in
-          λ i. record { stop = told-spent (C n .stop) .0 s i; steps = control-spent s i }
+          λ i. record { stop = bare-spent (C n .stop) .0 s i; steps = control-spent s i }
 
 -- The controllers stop alike, with the same steps.
 pub controllers-alike : {P R : Program} {f f′ : FunctionNumber} {Q Q′ : Code} {g g′ : ℕ} {args : List ℤ} {d : ℕ}
     → Paired P f Q g args d → Paired R f′ Q′ g′ args d → RunsAlike P f R f′ args → (n : ℕ)
-    → (told (controller Q′ g′ args d n .stop) ≡ told (controller Q g args d n .stop))
+    → (bareStop (controller Q′ g′ args d n .stop) ≡ bareStop (controller Q g args d n .stop))
     × (controller Q′ g′ args d n .steps ≡ controller Q g args d n .steps)
 controllers-alike {P} {R} {f} {f′} {Q} {Q′} {g} {g′} {args} {d} A A′ E n =
     (ap (λ (r : Result (Unit {0})). r .stop) e, ap (λ (r : Result (Unit {0})). r .steps) e)
   where
-    same : toldBy (told (bench R f′ args d n .stop)) (bench R f′ args d n .steps + extras R f′ args d n) n
-        ≡ toldBy (told (bench P f args d n .stop)) (bench P f args d n .steps + extras P f args d n) n
-    same = λ i. toldBy (E .stop d n i) (E .steps d n i + E .extras d n i) n
+    same : summaryAt (bareStop (bench R f′ args d n .stop)) (bench R f′ args d n .steps + extras R f′ args d n) n
+        ≡ summaryAt (bareStop (bench P f args d n .stop)) (bench P f args d n .steps + extras P f args d n) n
+    same = λ i. summaryAt (E .stop d n i) (E .steps d n i + E .extras d n i) n
 
     e : summary (controller Q′ g′ args d n) ≡ summary (controller Q g args d n)
-    e = told-by-bench A′ n ∙ (same ∙ sym (told-by-bench A n))
+    e = summary-by-bench A′ n ∙ (same ∙ sym (summary-by-bench A n))
 
 -- Where one of two runs that are told alike at every budget runs on for ever, so does the other.
-pub forever-alike : {S : Type 0} (A B : ℕ → Result S) → ((n : ℕ) → told (A n .stop) ≡ told (B n .stop)) → Forever A → Forever B
-forever-alike A B e h = λ n. told-spent (B n .stop) .1 (sym (e n) ∙ told-spent (A n .stop) .0 (h n))
+pub forever-alike : {S : Type 0} (A B : ℕ → Result S) → ((n : ℕ) → bareStop (A n .stop) ≡ bareStop (B n .stop)) → Forever A → Forever B
+forever-alike A B e h = λ n. bare-spent (B n .stop) .1 (sym (e n) ∙ bare-spent (A n .stop) .0 (h n))

@@ -5,7 +5,7 @@ use mathlib.Core.List.{List, _++_, map}
 use lib.IntN.{ℤ}
 use lib.ListN.{length}
 use Rattle.semantics.specs.Program.{FunctionNumber, Block, constant, copy, difference, call, goto, return, branch, raise, Labelled, Function, Program, functionOf}
-use Rattle.semantics.specs.Run.{told}
+use Rattle.semantics.specs.Run.{bareStop}
 use Rattle.semantics.specs.Bench.{bench}
 use Rattle.semantics.specs.WellFormed.{WellFormed}
 use Rattle.semantics.specs.Extras.{extras}
@@ -34,7 +34,7 @@ merged P Q = P ++ map (renumberedFunction (length P)) Q
 
 -- "a function ends as before with the same steps": function g of R as function f of P, at every depth limit d and budget n, and with the same extras.
 pub record RunsAlike (P : Program) (f : FunctionNumber) (R : Program) (g : FunctionNumber) (args : List ℤ) : Type 0 where
-  pub stop : (d n : ℕ) → told (bench R g args d n .stop) ≡ told (bench P f args d n .stop)
+  pub stop : (d n : ℕ) → bareStop (bench R g args d n .stop) ≡ bareStop (bench P f args d n .stop)
   pub steps : (d n : ℕ) → bench R g args d n .steps ≡ bench P f args d n .steps
   pub extras : (d n : ℕ) → extras R g args d n ≡ extras P f args d n
 

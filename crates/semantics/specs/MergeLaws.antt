@@ -80,16 +80,16 @@ outside-same k zero fs = caught-same k fs
 outside-same k (suc l) fs = refl
 
 -- Function g of P stands in R with the number k + g.
-record Stands (k : ℕ) (P R : Program) (g : FunctionNumber) : Type 0 where
+record Included (k : ℕ) (P R : Program) (g : FunctionNumber) : Type 0 where
   there : getElem? R (k + g) ≡ Option·map (renumberedFunction k) (getElem? P g)
   function : functionOf R (k + g) ≡ renumberedFunction k (functionOf P g)
 
 module _ (k : ℕ) (P R : Program) where
   -- What a step looks up stands in R: the running function, the function called, the functions that wait.
   record LookedUp (f : FunctionNumber) (b : Block) (fs : List Frame) : Type 0 where
-    running : Stands k P R f
-    called : (x : Variable) (g : FunctionNumber) (ys : List Variable) (b′ : Block) → b ≡ call x g ys b′ → Stands k P R g
-    frames : All (Stands k P R) (map functionIn fs)
+    running : Included k P R f
+    called : (x : Variable) (g : FunctionNumber) (ys : List Variable) (b′ : Block) → b ≡ call x g ys b′ → Included k P R g
+    frames : All (Included k P R) (map functionIn fs)
 
   abbrev Standing : State → Type 0
   Standing (state f i b vs fs) = LookedUp f b fs
@@ -101,13 +101,13 @@ module _ (k : ℕ) (P R : Program) where
   abbrev calledWith : Program → FunctionNumber → Option (List ℤ) → List Frame → Outcome State
   calledWith N g zs fs = given (getElem? N g) (λ G. given zs (λ args. next (begun g G args fs)))
 
-  label-stands : (f : FunctionNumber) → Stands k P R f → (l : Label)
+  label-stands : (f : FunctionNumber) → Included k P R f → (l : Label)
       → labelledAt (functionOf R (k + f) .blocks) l ≡ Option·map (renumberedLabelled k) (labelledAt (functionOf P f .blocks) l)
   label-stands f S zero = refl
   label-stands f S (suc l) = ap (λ (F : Function). getElem? (F .blocks) l) (S .function) ∙ at-map-any (renumberedLabelled k) (functionOf P f .blocks) l
 
   -- Entry to a labelled block, with the variables that it gives.
-  enters-with : (f : FunctionNumber) → Stands k P R f → (l : Label) (vs : Option Variable → List ℤ) (fs : List Frame)
+  enters-with : (f : FunctionNumber) → Included k P R f → (l : Label) (vs : Option Variable → List ℤ) (fs : List Frame)
       → given (labelledAt (functionOf R (k + f) .blocks) l) (λ B. next (state (k + f) (B .handler) (B .block) (vs (B .receiver)) (map (renumberedFrame k) fs)))
       ≡ mapOutcome h (given (labelledAt (functionOf P f .blocks) l) (λ B. next (state f (B .handler) (B .block) (vs (B .receiver)) fs)))
   enters-with f S l vs fs =
@@ -115,15 +115,15 @@ module _ (k : ℕ) (P R : Program) where
       let o : Option Labelled = labelledAt (functionOf P f .blocks) l in
       ap (λ (u : Option Labelled). given u rule) (label-stands f S l) ∙ (given-map (renumberedLabelled k) o rule ∙ given-same h o _ _ (λ B. refl))
 
-  enters : (f : FunctionNumber) → Stands k P R f → (l : Label) (vs : List ℤ) (fs : List Frame)
+  enters : (f : FunctionNumber) → Included k P R f → (l : Label) (vs : List ℤ) (fs : List Frame)
       → enter R (k + f) l vs (map (renumberedFrame k) fs) ≡ mapOutcome h (enter P f l vs fs)
   enters f S l vs fs = enters-with f S l (λ q. vs) fs
 
-  enters-by-raise : (f : FunctionNumber) → Stands k P R f → (l : Label) (n : ℤ) (vs : List ℤ) (fs : List Frame)
+  enters-by-raise : (f : FunctionNumber) → Included k P R f → (l : Label) (n : ℤ) (vs : List ℤ) (fs : List Frame)
       → enterByRaise R (k + f) l n vs (map (renumberedFrame k) fs) ≡ mapOutcome h (enterByRaise P f l n vs fs)
   enters-by-raise f S l n vs fs = enters-with f S l (λ q. received q n vs) fs
 
-  unwinds : (n : ℤ) (fs : List Frame) → All (Stands k P R) (map functionIn fs) → unwound R n (map (renumberedFrame k) fs) ≡ mapOutcome h (unwound P n fs)
+  unwinds : (n : ℤ) (fs : List Frame) → All (Included k P R) (map functionIn fs) → unwound R n (map (renumberedFrame k) fs) ≡ mapOutcome h (unwound P n fs)
   unwinds n [] S = refl
   unwinds n (frame f zero b vs x ∷ fs) S = unwinds n fs (S .1)
   unwinds n (frame f (suc l) b vs x ∷ fs) S = enters-by-raise f (S .0) (suc l) n vs fs
@@ -137,7 +137,7 @@ module _ (k : ℕ) (P R : Program) where
   returns z [] = refl
   returns z (frame f i b vs x ∷ fs) = refl
 
-  calls : (g : FunctionNumber) → Stands k P R g → (zs : Option (List ℤ)) (fs : List Frame)
+  calls : (g : FunctionNumber) → Included k P R g → (zs : Option (List ℤ)) (fs : List Frame)
       → calledWith R (k + g) zs (map (renumberedFrame k) fs) ≡ mapOutcome h (calledWith P g zs fs)
   calls g S zs fs =
       let rule : Function → Outcome State = λ G. given zs (λ args. next (begun (k + g) G args (map (renumberedFrame k) fs))) in
@@ -162,7 +162,7 @@ module _ (k : ℕ) (P R : Program) where
   steps d (state f i (raise r) vs fs) S = given-same h (numberRaised vs r) _ _ (λ n. raises f i n (raise r) vs fs S)
 
   -- The bindings of a raise look at the version, the count of variables and the receivers, which stay.
-  binds-same : (f : FunctionNumber) → Stands k P R f → (i : Handler) (r : Option Variable) → bindings (functionOf R (k + f)) i r ≡ bindings (functionOf P f) i r
+  binds-same : (f : FunctionNumber) → Included k P R f → (i : Handler) (r : Option Variable) → bindings (functionOf R (k + f)) i r ≡ bindings (functionOf P f) i r
   binds-same f S zero none = ap (λ (F : Function). one (spareSlot F)) (S .function)
   binds-same f S zero (some y) = refl
   binds-same f S (suc l) r = ap (λ (o : Option Labelled). one (receiverIn o)) (label-stands f S (suc l)) ∙ by (labelledAt (functionOf P f .blocks) (suc l))
@@ -171,7 +171,7 @@ module _ (k : ℕ) (P R : Program) where
       by none = refl
       by (some B) = refl
 
-  raise-same : (f : FunctionNumber) → Stands k P R f → (i : Handler) (r : Option Variable) (fs : List Frame) → raiseExtra R (k + f) i r (map (renumberedFrame k) fs) ≡ raiseExtra P f i r fs
+  raise-same : (f : FunctionNumber) → Included k P R f → (i : Handler) (r : Option Variable) (fs : List Frame) → raiseExtra R (k + f) i r (map (renumberedFrame k) fs) ≡ raiseExtra P f i r fs
   raise-same f S i r fs = λ j. binds-same f S i r j + outside-same k i fs j
 
   weighs : (T : State) → Standing T → extra R (h T) ≡ extra P T
@@ -206,7 +206,7 @@ module _ (k : ℕ) (P R : Program) where
 
 -- ── Well-formed ─────────────────────────────────────────────────────────────────────────────────
 
-module _ (k : ℕ) (P R : Program) (stands : (g : FunctionNumber) → g < length P → Stands k P R g) where
+module _ (k : ℕ) (P R : Program) (stands : (g : FunctionNumber) → g < length P → Included k P R g) where
   is-there : (g : FunctionNumber) → g < length P → k + g < length R
   is-there g l =
       at-below R (k + g) (renumberedFunction k (functionOf P g))
@@ -263,7 +263,7 @@ module _ (P Q : Program) where
       let r : Function → Function = renumberedFunction (length P) in
       getD-append-add P (map r Q) f noFunction ∙ List·getD-map r Q f noFunction
 
-  first-stands : (g : FunctionNumber) → g < length P → Stands 0 P (merged P Q) g
+  first-stands : (g : FunctionNumber) → g < length P → Included 0 P (merged P Q) g
   unfolding merged
   first-stands g l =
       let same : functionOf P g ≡ renumberedFunction 0 (functionOf P g) = sym (zero-function (functionOf P g)) in
@@ -272,7 +272,7 @@ module _ (P Q : Program) where
         function = rw (zero-add g, merged-first g l) same;
       }
 
-  second-stands : (g : FunctionNumber) → Stands (length P) Q (merged P Q) g
+  second-stands : (g : FunctionNumber) → Included (length P) Q (merged P Q) g
   unfolding merged
   second-stands g =
       let r : Function → Function = renumberedFunction (length P) in
@@ -293,7 +293,7 @@ module _ (P Q : Program) where
       (runs-alike 0 P (merged P Q) (WellFormedState P) (λ d S S′ w e. step-wellFormed P W d S S′ w e .0) standing f args
       (start-wellFormed P W f l args la))
     where
-      waits : (r : Frame) → WellFormedFrame P r → Stands 0 P (merged P Q) (functionIn r)
+      waits : (r : Frame) → WellFormedFrame P r → Included 0 P (merged P Q) (functionIn r)
       waits (frame g i b vs x) w = first-stands g (w .0 .function)
 
       standing : (T : State) → WellFormedState P T → Standing 0 P (merged P Q) T
@@ -303,7 +303,7 @@ module _ (P Q : Program) where
           record {
             running = first-stands g (w .0 .function);
             called = λ x j ys b′ e. first-stands j (subst (WellFormedBlock P v n) e (w .0 .block) .1);
-            frames = all-mapped (Stands 0 P (merged P Q)) (WellFormedFrame P) functionIn fs waits (w .1);
+            frames = all-mapped (Included 0 P (merged P Q)) (WellFormedFrame P) functionIn fs waits (w .1);
           }
 
   second-alike : (f : FunctionNumber) (args : List ℤ) → RunsAlike Q f (merged P Q) (length P + f) args
@@ -315,7 +315,7 @@ module _ (P Q : Program) where
           record {
             running = second-stands g;
             called = λ x j ys b′ e. second-stands j;
-            frames = all-every (Stands (length P) Q (merged P Q)) second-stands (map functionIn fs);
+            frames = all-every (Included (length P) Q (merged P Q)) second-stands (map functionIn fs);
           }
 
 pub merged-runs-alike : MergedRunsAlike

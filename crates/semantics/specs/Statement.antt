@@ -1,6 +1,6 @@
 -- What is claimed of the rules: demand 3 as one statement, and demand 1's "each of its steps has a next step or a named end".
 -- Whoever doubts the price list reads this file first; Theorem.antt proves it.
-use Prim.Native.Nat.{ℕ, suc, _+_, _≤_, _<_}
+use Prim.Native.Nat.{ℕ, _+_, _≤_, _<_}
 use mathlib.Core.Path.{_≡_}
 use mathlib.Core.Logic.{_↔_}
 use mathlib.Core.List.{List}
@@ -8,7 +8,7 @@ use mathlib.Core.Option.{Option}
 use lib.IntN.{ℤ}
 use lib.ListN.{length}
 use Rattle.semantics.specs.Program.{FunctionNumber, IsCall, Program, functionOf}
-use Rattle.semantics.specs.Run.{End, stuck, Stop, deep, Result, told, IsDeep, IsSpent, IsBroken, EndsWith, Forever}
+use Rattle.semantics.specs.Run.{End, stuck, Stop, deep, Result, bareStop, IsDeep, IsSpent, IsBroken, EndsWith, Forever}
 use Rattle.semantics.specs.Bench.{State, state, waiting, bench}
 use Rattle.semantics.specs.WellFormed.{All, WellFormed, WellFormedState}
 use Rattle.semantics.specs.Code.{Slot, resume, handle, MakesRecord, Code}
@@ -26,7 +26,7 @@ SameCall P (state f h b vs fs) (control e env rs) = Matches P (state f h b vs fs
 -- Two runs stopped alike: with the same value, uncaught with the same number, spent or deep; in matching states, variable for variable and waiting call for
 -- waiting call; deep at the same call.
 pub record StopsMatch (P : Program) (b : Stop State) (c : Stop Control) : Type 0 where
-  pub alike : told c ≡ told b
+  pub alike : bareStop c ≡ bareStop b
   pub states : HoldingsMatch P (holding b) (holding c)
   pub call : (S : State) (C : Control) → b ≡ deep S → c ≡ deep C → SameCall P S C
 

@@ -12,7 +12,7 @@ use borrow.Author.Tests.{leb-true, leb-false}
 use lib.IntN.{ℤ, _-ℤ_}
 use Rattle.semantics.specs.Value.{inRange}
 use Rattle.semantics.specs.Program.{FunctionNumber, Variable, Handler, constant, copy, difference, call, goto, return, branch, raise, Function, Program, functionOf}
-use Rattle.semantics.specs.Run.{End, Outcome, next, end, tooDeep, stuck, Stop, ended, spent, deep, broken, IsSpent, IsDeep, IsBroken, Result, told, oneMoreIfDeep, spentIfDeep, after, taken, added, run, total}
+use Rattle.semantics.specs.Run.{End, Outcome, next, end, tooDeep, stuck, Stop, ended, spent, deep, broken, IsSpent, IsDeep, IsBroken, Result, bareStop, oneMoreIfDeep, spentIfDeep, after, taken, added, run, total}
 use Rattle.semantics.specs.Bench.{Frame, frame, State, state, begun, step, bench}
 use Rattle.semantics.specs.Controller.{Control, control, started, controlStep, controller}
 use Rattle.semantics.specs.Code.{Code}
@@ -158,10 +158,10 @@ deep-state (broken s) d = absurd d
 deep-not-spent : {S : Type 0} (x : Stop S) → IsDeep x → ¬ IsSpent x
 deep-not-spent {S} x d i = subst (λ (y : Stop S). IsSpent y) (deep-state x d .1) i
 
-pub deep-told : {S : Type 0} (x : Stop S) → IsDeep x ↔ (told x ≡ deep tt)
-deep-told {S} x = (λ d. ap (λ (y : Stop S). told y) (deep-state x d .1), λ e. back x (subst (λ (y : Stop (Unit {0})). IsDeep y) (sym e) tt))
+pub bare-deep : {S : Type 0} (x : Stop S) → IsDeep x ↔ (bareStop x ≡ deep tt)
+bare-deep {S} x = (λ d. ap (λ (y : Stop S). bareStop y) (deep-state x d .1), λ e. back x (subst (λ (y : Stop (Unit {0})). IsDeep y) (sym e) tt))
   where
-    back : (y : Stop S) → IsDeep (told y) → IsDeep y
+    back : (y : Stop S) → IsDeep (bareStop y) → IsDeep y
     back (ended e) d = d
     back (spent s) d = d
     back (deep s) d = d
@@ -204,10 +204,10 @@ pub record Together (P : Program) (b : Result State) (x : ℕ) (C : ℕ → Resu
 -- The controller got exactly bench steps + extras: it took them all, and stopped as the bench did, but spent where the bench stopped deep.
 -- With one step more for each, one stops deep exactly when the other does, both with the steps and the extras that they had.
 pub record Exactly (B : ℕ → Result State) (X : ℕ → ℕ) (C : ℕ → Result Control) (n : ℕ) : Type 0 where
-  pub stop : told (C (B n .steps + X n) .stop) ≡ spentIfDeep (told (B n .stop))
+  pub stop : bareStop (C (B n .steps + X n) .stop) ≡ spentIfDeep (bareStop (B n .stop))
   pub steps : C (B n .steps + X n) .steps ≡ B n .steps + X n
-  pub sameDeep : (told (B (B n .steps + 1) .stop) ≡ deep tt) ↔ (told (C (B n .steps + X n + 1) .stop) ≡ deep tt)
-  pub deepSteps : told (B (B n .steps + 1) .stop) ≡ deep tt
+  pub sameDeep : (bareStop (B (B n .steps + 1) .stop) ≡ deep tt) ↔ (bareStop (C (B n .steps + X n + 1) .stop) ≡ deep tt)
+  pub deepSteps : bareStop (B (B n .steps + 1) .stop) ≡ deep tt
       → (B (B n .steps + 1) .steps ≡ B n .steps) × (X (B n .steps + 1) ≡ X n) × (C (B n .steps + X n + 1) .steps ≡ B n .steps + X n)
 
 module _ (P : Program) {B : ℕ → Result State} {X : ℕ → ℕ} {C : ℕ → Result Control} (A : Agree P B X C)
@@ -284,7 +284,7 @@ module _ (P : Program) {B : ℕ → Result State} {X : ℕ → ℕ} {C : ℕ →
         by (deep S) q = with-one S q
         by (broken S) q = absurd (sound n (subst (λ (y : Stop State). IsBroken y) (sym q) tt))
 
-    stop-exactly : (x : Stop State) → B n .stop ≡ x → told (C (B n .steps + X n) .stop) ≡ spentIfDeep (told x)
+    stop-exactly : (x : Stop State) → B n .stop ≡ x → bareStop (C (B n .steps + X n) .stop) ≡ spentIfDeep (bareStop x)
     stop-exactly (ended e) q = match-ended P e (C (B n .steps + X n) .stop) (matched (ended e) q) .alike
     stop-exactly (spent S) q = still-going S (matched (spent S) q) .alike
     stop-exactly (deep S) q = still-going S (matched (deep S) q) .alike
@@ -292,8 +292,8 @@ module _ (P : Program) {B : ℕ → Result State} {X : ℕ → ℕ} {C : ℕ →
 
     pub exactly : Exactly B X C n
     exactly =
-        let b = deep-told (B (B n .steps + 1) .stop) in
-        let c = deep-told (C (B n .steps + X n + 1) .stop) in
+        let b = bare-deep (B (B n .steps + 1) .stop) in
+        let c = bare-deep (C (B n .steps + X n + 1) .stop) in
         record {
           stop = stop-exactly (B n .stop) refl;
           steps = A .counted n;

@@ -270,9 +270,9 @@ module _ (P : Program) (W : WellFormed P) (f : FunctionNumber) (lf : f < length 
   ends-next k zero T c e g h l = control-ends k (k + 1) (matching P T) e g (ap (controlStep (translate P) d) h ∙ l) (omega arith)
   ends-next k (suc m) T c e g h l = control-goes-on k (matching P T) (h .0) g (h .1)
 
-  tag-9-parts-stop : (k x : ℕ) (T : State) → Goes (step P d) k first T → step P d T ≡ tooDeep → ControlGoes P d (k + x) start (matching P T) → controlStep (translate P) d (matching P T) ≡ tooDeep → SameCall P T (matching P T) → OneMore k x
+  both-stop-deep : (k x : ℕ) (T : State) → Goes (step P d) k first T → step P d T ≡ tooDeep → ControlGoes P d (k + x) start (matching P T) → controlStep (translate P) d (matching P T) ≡ tooDeep → SameCall P T (matching P T) → OneMore k x
   unfolding B C bench controller first start
-  tag-9-parts-stop k x T g l cg cl m =
+  both-stop-deep k x T g l cg cl m =
       both T (run-deep (step P d) k (k + 1) first T g l (omega arith)) (run-deep (controlStep (translate P) d) (k + x) (k + x + 1) start (matching P T) cg cl (omega arith)) m
 
   more-going : (n x : ℕ) (T : State) → Goes (step P d) n first T → ControlGoes P d (n + x) start (matching P T) → (o : Outcome State) → step P d T ≡ o → Follows P d T o → OneMore n x
@@ -282,7 +282,7 @@ module _ (P : Program) (W : WellFormed P) (f : FunctionNumber) (lf : f < length 
       (not-deep (B (n + 1)) (record { stop = spent U; steps = n + 1 }) (run-spent (step P d) (n + 1) first U (goes-goes (step P d) n 1 first T U g (U, e, refl))) (λ i. i))
       (control-goes-on (n + x) (matching P T) (F .goes .0) cg (F .goes .1))
   more-going n x T g cg (end y) e F = neither (bench-ends n (n + 1) T y g e (omega arith)) (ends-next (n + x) (extra P T) T (F .0) y cg (F .1) (F .2))
-  more-going n x T g cg tooDeep e F = tag-9-parts-stop n x T g e cg (F .0) (F .1)
+  more-going n x T g cg tooDeep e F = both-stop-deep n x T g e cg (F .0) (F .1)
   more-going n x T g cg stuck e F = absurd F
 
   one-more : (n : ℕ) → OneMore (B n .steps) (X n)
@@ -297,7 +297,7 @@ module _ (P : Program) (W : WellFormed P) (f : FunctionNumber) (lf : f < length 
       by (both-ended k e T c g l h cg cl) =
           at-steps (suc k) (ended e) (run-ended (step P d) k n first T e g l h)
           (neither (bench-ends k (suc k + 1) T e g l (omega arith)) (control-ends (k + X n) (suc k + X n + 1) c e cg cl (omega arith)))
-      by (both-deep k T g l h cg cl m) = at-steps k (deep T) (run-deep (step P d) k n first T g l h) (tag-9-parts-stop k (X n) T g l cg cl m)
+      by (both-deep k T g l h cg cl m) = at-steps k (deep T) (run-deep (step P d) k n first T g l h) (both-stop-deep k (X n) T g l cg cl m)
 
   same-deep : (n : ℕ) → IsDeep (B (B n .steps + 1) .stop) ↔ IsDeep (C (B n .steps + X n + 1) .stop)
   same-deep n = by (one-more n)

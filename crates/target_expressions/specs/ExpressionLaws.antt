@@ -15,7 +15,7 @@ use Rattle.target_tags.specs.Tag.{pairAt, tagAt}
 use Rattle.target_slots.specs.Slots.{bound}
 use Rattle.target_names.specs.Names.{namesOf, judged}
 use Rattle.target_tags.specs.TagLaws.{tag-past}
-use Rattle.target_tags.specs.ViewLaws.{View, isConstant, isCopy, isDifference, isJump, isResume, isHandle, isBranch, isContinuation, isBoth, isDifferenceOrRaise, isRefused, view, seen}
+use Rattle.target_tags.specs.ViewLaws.{View, isConstant, isCopy, isDifference, isJump, isResume, isHandle, isBranch, isContinuation, isContinuationWithHandler, isDifferenceOrRaise, isRefused, view, seen}
 use Rattle.target_parts.specs.Parts.{pair, measured, sized, levelVerdict}
 use Rattle.target_expressions.specs.Expressions.{Reading, nested, before, Behind, ends, goesOn, goesOnBound, part, sizedPart, Node, found, missing, nodeOf, readBehind, readNode, after, node, expressionN, expression}
 
@@ -42,7 +42,7 @@ module _ (s : List ℕ) (at : ℕ) where
   node-in ks (isHandle e h) = ending (omega arith) h
   node-in ks (isBranch e h) = ending (omega arith) h
   node-in ks (isContinuation e h) = ending (omega arith) h
-  node-in ks (isBoth e h) = ending (omega arith) h
+  node-in ks (isContinuationWithHandler e h) = ending (omega arith) h
   node-in ks (isDifferenceOrRaise e h) = ending (omega arith) h
   node-in ks (isRefused r) = tt
 

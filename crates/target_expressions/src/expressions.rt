@@ -15,7 +15,7 @@ ghost use lib.ListN.{length};
 ghost use Prim.Native.Nat.{_≤_, _<_};
 ghost use Rattle.parsing.specs.Parser.{pastOf};
 ghost use Rattle.target_tags.specs.Tag.{fileLimit};
-ghost use Rattle.target_names.specs.Standing.{Stands};
+ghost use Rattle.target_names.specs.Asked.{NodeAt};
 ghost use Rattle.target_expressions.specs.Expressions.{expression};
 ghost use Rattle.target_expressions.specs.Ends.{nodeEnd, partsEnd, continuationWithHandlerEnd, partEnd, bodyEnd};
 
@@ -66,7 +66,7 @@ fn node_end(
     node: Tag,
 ) -> After
     requires { ⌜ length (now file) ≤ fileLimit ⌝ }
-    requires { ⌜ Stands (now file) at node ⌝ }
+    requires { ⌜ NodeAt (now file) at node ⌝ }
     ensures { λ r. ⌜ r ≡ nodeEnd names (now (params .entry)) (now (file .entry)) level kinds at node ⌝ }
 {
     match names::judge(names, file, params, kinds, at, node) {
@@ -89,7 +89,7 @@ fn parts_end(
     node: Tag,
 ) -> Scan
     requires { ⌜ length (now file) ≤ fileLimit ⌝ }
-    requires { ⌜ Stands (now file) at node ⌝ }
+    requires { ⌜ NodeAt (now file) at node ⌝ }
     ensures { λ r. ⌜ r ≡ partsEnd names (now (params .entry)) (now (file .entry)) level kinds at node ⌝ }
 {
     match node {

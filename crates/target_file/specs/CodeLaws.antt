@@ -29,7 +29,7 @@ use Rattle.target_expressions.specs.PartLaws.{impossible, sized-read}
 use Rattle.target_layout.specs.FileLaws.{read-functions, functions-right, read-code}
 use Rattle.target_file.specs.RightLaws.{entry-like}
 use Rattle.target_file.specs.ReadLaws.{expression-found}
-use Rattle.target_file.specs.StandsLaws.{stands-inside, stands-within, sized-holds, expression-stands}
+use Rattle.target_file.specs.ExprLaws.{expr-inside, expr-within, sized-holds, expression-stands}
 
 -- How many bytes functions take.
 abbrev pub codeSize : Code → ℕ
@@ -111,7 +111,7 @@ module _ (names : Bool) (ps s : List ℕ) (G : Code) (named : names ≡ true →
       → function names ps s at ≡ read D (at + 3 + size (D .body))
   unfolding function count
   function-stands at D p z h g r =
-      let i = stands-inside s (at + 3) (D .body) h in
+      let i = expr-inside s (at + 3) (D .body) h in
       let q : at + 1 + 2 ≡ at + 3 = omega arith in
       let x = expression-stands names ps s G named 0 (rules.entryKinds (D .params)) (entryKinds (D .params)) (at + 1 + 2) (D .body) (subst (λ (j : ℕ). ExprAt s j (D .body)) (sym q) h) (g .levels) (λ t. entry-like (slots-bound (versionOf s)) (D .params) (omega (arith, g .params))) r in
       let m = sized-holds (expression names ps 0 (entryKinds (D .params))) s (at + 1) (size (D .body)) (omega arith) z x refl in
@@ -148,7 +148,7 @@ code-version s (D ∷ Q) f = f .ranged .0 .versionIs
 pub code-within : (s : List ℕ) (at : ℕ) (Q : Code) → at ≤ length s → CodeAt s at Q → at + codeSize Q ≤ length s
 code-within s at [] l h = omega arith
 code-within s at (D ∷ Q) l h =
-    let i = stands-within s (at + 3) (D .body) (h .2) in
+    let i = expr-within s (at + 3) (D .body) (h .2) in
     let r = code-within s (at + 3 + size (D .body)) Q i (h .3) in
     omega arith
 

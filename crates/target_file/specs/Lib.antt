@@ -13,7 +13,7 @@ pub mod MoreSlotsLaws
 pub mod RightLaws
 pub mod ReadLaws
 pub mod FormLaws
-pub mod StandsLaws
+pub mod ExprLaws
 pub mod CodeLaws
 pub mod TablesLaws
 pub mod CheckLaws

@@ -17,7 +17,7 @@ use Rattle.target_tags.specs.declared.tag.Tag.the-variants.{Handle, Branch, Con
 use Rattle.target_tags.specs.Tag.{slotsIn, numberWidth, numberSlotAt, slotIn, numberSlot, pairAt, tagAt}
 use Rattle.target_slots.specs.Slots.{binds, reads, differ, bound}
 use Rattle.target_names.specs.Names.{function, arity, values, readsNumber, bindsNumber, jumpNames, handleNames, continuationWithHandlerNames, namesOf, judged}
-use Rattle.target_tags.specs.ViewLaws.{View, isConstant, isCopy, isDifference, isJump, isResume, isHandle, isBranch, isContinuation, isBoth, isDifferenceOrRaise, isRefused, view}
+use Rattle.target_tags.specs.ViewLaws.{View, isConstant, isCopy, isDifference, isJump, isResume, isHandle, isBranch, isContinuation, isContinuationWithHandler, isDifferenceOrRaise, isRefused, view}
 use Rattle.target_parts.specs.Parts.{measured, sized}
 use Rattle.target_expressions.specs.Expressions.{Reading, nested, Behind, ends, goesOn, goesOnBound, part, sizedPart, Node, found, missing, nodeOf, readBehind, readNode, expressionN, expression, slotsAt}
 use Rattle.semantics.specs.SlotRules.{wholeKind, continuationKind, handlerKind, Kinds, bindKind, bindNumberKind, KeepsRules}
@@ -203,7 +203,7 @@ module _ (names : Bool) (ps s : List ℕ) (Q : Code) (named : names ≡ true →
               let b₂ = binds-right (at + 2) y (a .1) in
               (b₁, b₂, P .stands .right q (bindKind KS x continuationKind) (like-bind x continuationKind b₁ l), F .right q (bindKind KS y wholeKind) (like-bind y wholeKind b₂ l));
         })
-    from-found (isBoth f h) is right (r, P, (c, H, (k, F, o))) =
+    from-found (isContinuationWithHandler f h) is right (r, P, (c, H, (k, F, o))) =
         let x = getD s (at + 1) 0 in
         let y = getD s (at + 2) 0 in
         let t = getD s (at + 3) 0 in

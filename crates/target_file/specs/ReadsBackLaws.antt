@@ -17,7 +17,7 @@ use Rattle.parsing.specs.BytesLaws.{pair-forth, value-forth}
 use Rattle.parsing.specs.ReadsLaws.{byte-here, first-here, length-here, next-here, behind}
 use Rattle.target_tags.specs.declared.tag.Tag.the-variants.{Constant, Copy, Difference, Jump, Resume, Handle, Branch, Continuation, ContinuationWithHandler, DifferenceOrRaise}
 use Rattle.target_tags.specs.Tag.{numberWidth, numberSlot, pairAt, tagAt}
-use Rattle.target_tags.specs.TagLaws.{tag-1, tag-2, tag-3, tag-4, tag-5, tag-6, tag-7, tag-8, tag-9, tag-10, constant-in, copy-in, difference-in, jump-in, resume-in, handle-in, branch-in, continuation-in, tag-9-in, tag-10-in}
+use Rattle.target_tags.specs.TagLaws.{tag-1, tag-2, tag-3, tag-4, tag-5, tag-6, tag-7, tag-8, tag-9, tag-10, constant-in, copy-in, difference-in, jump-in, resume-in, handle-in, branch-in, continuation-in, continuation-with-handler-in, difference-or-raise-in}
 use Rattle.target_file.specs.Writing.{Parts, ends, bytes, constant, number, nested, slotBytes, slotWidth, partsOf, partsSize, partsBytes, size, exprBytes, targetBytes, FieldsFit}
 use Rattle.target_file.specs.NumberSlotLaws.{slot-here}
 use Rattle.target_file.specs.LoadedCode.{ExprAt}
@@ -136,9 +136,9 @@ module _ (s : List ℕ) where
           sized = pair-here at l h 4 n refl refl;
         }
 
-    tag-9-here : (x p t : ℕ) (q : Option ℕ) (n : ℕ) → slotWidth q ≡ numberWidth (versionOf s) → drop at s ≡ 9 ∷ x ∷ p ∷ t ∷ (slotBytes q ++ (pairBytes n ++ rest))
+    continuation-with-handler-here : (x p t : ℕ) (q : Option ℕ) (n : ℕ) → slotWidth q ≡ numberWidth (versionOf s) → drop at s ≡ 9 ∷ x ∷ p ∷ t ∷ (slotBytes q ++ (pairBytes n ++ rest))
         → tagAt s at ≡ ContinuationWithHandler x p t (numberSlot q) n (at + 6 + slotWidth q)
-    tag-9-here x p t q n w h =
+    continuation-with-handler-here x p t q n w h =
         let k : List ℕ = 9 ∷ x ∷ p ∷ t ∷ (slotBytes q ++ (pairBytes n ++ rest)) in
         let b = byte-here s at k h in
         let l = length-here s at k h in
@@ -148,13 +148,13 @@ module _ (s : List ℕ) where
         let z : o + 0 ≡ o = omega arith in
         let f : n ≡ pairAt s o = pair-here o (pairBytes n ++ rest) (behind s (at + 4) (slotBytes q) (pairBytes n ++ rest) g) 0 n refl refl ∙ ap (pairAt s) z in
         sym
-        (tag-9-in s at x p t (numberSlot q) n (slotWidth q) w (omega (arith, l, m)) (sym (b 1)) (sym (b 2)) (sym (b 3)) (slot-here s (at + 4) q (pairBytes n ++ rest) w g) f
+        (continuation-with-handler-in s at x p t (numberSlot q) n (slotWidth q) w (omega (arith, l, m)) (sym (b 1)) (sym (b 2)) (sym (b 3)) (slot-here s (at + 4) q (pairBytes n ++ rest) w g) f
         ∙ tag-9 s at (omega (arith, l, m)) (first-here s at k h))
 
-    tag-10-here : (x y z n : ℕ) → drop at s ≡ 10 ∷ x ∷ y ∷ z ∷ (pairBytes n ++ rest) → tagAt s at ≡ DifferenceOrRaise x y z n (at + 6)
-    tag-10-here x y z n h =
+    difference-or-raise-here : (x y z n : ℕ) → drop at s ≡ 10 ∷ x ∷ y ∷ z ∷ (pairBytes n ++ rest) → tagAt s at ≡ DifferenceOrRaise x y z n (at + 6)
+    difference-or-raise-here x y z n h =
         let f = three-and-length 10 x y z n h in
-        sym (tag-10-in s at x y z n (f .inside) (f .first) (f .second) (f .third) (f .sized) ∙ tag-10 s at (omega (arith, f .inside)) (f .tag))
+        sym (difference-or-raise-in s at x y z n (f .inside) (f .first) (f .second) (f .third) (f .sized) ∙ tag-10 s at (omega (arith, f .inside)) (f .tag))
 
   -- What stands behind an expression.
   past-expr : (at : ℕ) (e : Expr) (rest : List ℕ) → drop at s ≡ exprBytes e ++ rest → drop (at + size e) s ≡ rest
@@ -205,7 +205,7 @@ module _ (s : List ℕ) where
       let q : o + 0 ≡ o = omega arith in
       let z : pairAt s o ≡ size c = ap (pairAt s) (sym q) ∙ sym (pair-here o (r ++ rest) m 0 (size c) refl refl) in
       let d : drop (o + 2) s ≡ exprBytes c ++ (exprBytes k ++ rest) = next-here s o (r ++ rest) m 2 ∙ append-assoc (exprBytes c) (exprBytes k) rest in (
-        tag-9-here at l x p t y (size e) (f .0) g,
+        continuation-with-handler-here at l x p t y (size e) (f .0) g,
         z,
         expr-stands i e (r ++ rest) (f .1 .0) n,
         expr-stands (o + 2) c (exprBytes k ++ rest) (f .1 .1 .0) d,
@@ -214,7 +214,7 @@ module _ (s : List ℕ) where
   expr-stands at (letDifferenceOrRaise x y z r e) rest f h =
       let l = (exprBytes r ++ exprBytes e) ++ rest in
       let n : drop (at + 6) s ≡ exprBytes r ++ (exprBytes e ++ rest) = next-here s at (10 ∷ x ∷ y ∷ z ∷ (pairBytes (size r) ++ l)) h 6 ∙ append-assoc (exprBytes r) (exprBytes e) rest in (
-        tag-10-here at l x y z (size r) h,
+        difference-or-raise-here at l x y z (size r) h,
         expr-stands (at + 6) r (exprBytes e ++ rest) (f .0) n,
         expr-stands (at + 6 + size r) e rest (f .1) (past-expr (at + 6) r (exprBytes e ++ rest) n),
       )

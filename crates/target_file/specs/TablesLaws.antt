@@ -17,7 +17,7 @@ use Rattle.target_layout.specs.Layout.{code}
 use Rattle.target_layout.specs.FileLaws.{read-code}
 use Rattle.target_file.specs.Writing.{size}
 use Rattle.target_file.specs.Check.{arities, codeRead, codeOf}
-use Rattle.target_file.specs.StandsLaws.{stands-inside, stands-within}
+use Rattle.target_file.specs.ExprLaws.{expr-inside, expr-within}
 use Rattle.target_file.specs.CodeLaws.{CodeAt, FileAt, laid-read}
 use Rattle.target_file.specs.Tables.{LaidOut, startsFrom, tableOf, Tabled}
 
@@ -69,8 +69,8 @@ module _ {s : List ℕ} (laid : LaidOut s) {n i at : ℕ} {starts params : List 
 
   pub turn-head : Head s i at
   turn-head =
-      let w = stands-within s (at + 3) (D .body) (stand .2) in
-      record { inside = stands-inside s (at + 3) (D .body) (stand .2); sized = let q = stand .1 in omega arith; fileBound = laid .fileBound; counterBound = omega (arith, more, most) }
+      let w = expr-within s (at + 3) (D .body) (stand .2) in
+      record { inside = expr-inside s (at + 3) (D .body) (stand .2); sized = let q = stand .1 in omega arith; fileBound = laid .fileBound; counterBound = omega (arith, more, most) }
 
   module _ {starts′ params′ : List ℕ} {v m : ℕ} (is : v ≡ getD s at 0) (sized : m ≡ pairAt s (at + 1))
       (es : starts′ ≡ set starts i (at + 3)) (ep : params′ ≡ set params i v) where

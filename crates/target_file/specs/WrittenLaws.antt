@@ -17,12 +17,12 @@ use Rattle.parsing.specs.BytesAtLaws.{BytesAt, bytes-at-none, bytes-at-join, by
 use Rattle.target_tags.specs.declared.tag.Tag.{Tag}
 use Rattle.target_tags.specs.declared.tag.Tag.the-variants.{Constant, Copy, Difference, Jump, Resume, Handle, Branch, Continuation, ContinuationWithHandler, DifferenceOrRaise, Refused}
 use Rattle.target_tags.specs.Tag.{numberWidth, numberSlotAt, slotIn, numberSlot, pairAt, tagAt}
-use Rattle.target_tags.specs.ViewLaws.{View, isConstant, isCopy, isDifference, isJump, isResume, isHandle, isBranch, isContinuation, isBoth, isDifferenceOrRaise, isRefused, seen}
+use Rattle.target_tags.specs.ViewLaws.{View, isConstant, isCopy, isDifference, isJump, isResume, isHandle, isBranch, isContinuation, isContinuationWithHandler, isDifferenceOrRaise, isRefused, seen}
 use Rattle.target_expressions.specs.Expressions.{slotsAt}
 use Rattle.target_file.specs.Writing.{slotBytes, slotWidth, size, exprBytes, targetBytes, FieldsFit}
 use Rattle.target_file.specs.NumberSlotLaws.{slot-back, slot-width, slot-bytes-at}
 use Rattle.target_file.specs.LoadedCode.{ExprAt}
-use Rattle.target_file.specs.StandsLaws.{stands-inside}
+use Rattle.target_file.specs.ExprLaws.{expr-inside}
 use Rattle.target_file.specs.CodeLaws.{codeSize, CodeAt}
 
 -- ── What stands is written ──────────────────────────────────────────────────────────────────────
@@ -98,7 +98,7 @@ module _ (s : List ℕ) (bytes : Bytes s) where
       (bytes-at-join s (operands at 6 1 e (omega arith)) (slot-bytes-at s (at + 2) h), sym (slot-width s (at + 2)))
   node-bytes-at at (isBranch e h) = subst (λ (l : List ℕ). BytesAt s at (at + 5) (7 ∷ getD s (at + 1) 0 ∷ getD s (at + 2) 0 ∷ l)) (pair-behind at 3) (operands at 7 4 e h)
   node-bytes-at at (isContinuation e h) = subst (λ (l : List ℕ). BytesAt s at (at + 5) (8 ∷ getD s (at + 1) 0 ∷ getD s (at + 2) 0 ∷ l)) (pair-behind at 3) (operands at 8 4 e h)
-  node-bytes-at at (isBoth e h) =
+  node-bytes-at at (isContinuationWithHandler e h) =
       let w = numberWidth (versionOf s) in
       let b = slot-bytes-at s (at + 4) (omega (arith, h)) in
       let p : at + 4 + w + 2 ≡ at + 6 + w = omega arith in
@@ -150,7 +150,7 @@ module _ (s : List ℕ) (bytes : Bytes s) where
   expr-bytes-at at (letContinuationWithHandler x p t q e c k) h =
       let i = at + 6 + slotWidth q in
       let o = i + size e in
-      let j = stands-inside s (o + 2) c (h .3) in
+      let j = expr-inside s (o + 2) c (h .3) in
       let a = subst (λ (z : Option ℕ).
       BytesAt s at (at + 4) (9 ∷ x ∷ p ∷ t ∷ []) × BytesAt s (at + 4) (at + 4 + slotWidth z) (slotBytes z)
       × BytesAt s (at + 4 + slotWidth z) i (pairBytes (size e)) × (slotWidth z ≡ numberWidth (versionOf s))) (slot-back q)
@@ -171,7 +171,7 @@ module _ (s : List ℕ) (bytes : Bytes s) where
   pub code-bytes-at : (at : ℕ) (Q : Code) → CodeAt s at Q → BytesAt s at (at + codeSize Q) (joined targetBytes Q)
   code-bytes-at at [] h = onward (omega arith) (bytes-at-none s at)
   code-bytes-at at (D ∷ Q) h =
-      let i = stands-inside s (at + 3) (D .body) (h .2) in
+      let i = expr-inside s (at + 3) (D .body) (h .2) in
       let a : BytesAt s at (at + 1) (D .params ∷ []) = subst (λ (n : ℕ). BytesAt s at (at + 1) (n ∷ [])) (h .0) (bytes-at-byte s at (omega arith)) in
       let b : BytesAt s (at + 1) (at + 3) (pairBytes (size (D .body))) = onward (omega arith) (subst (λ (n : ℕ). BytesAt s (at + 1) (at + 1 + 2) (pairBytes n)) (h .1) (bytes-at-pair (at + 1) (omega arith))) in
       let c = expr-bytes-at (at + 3) (D .body) (h .2) in

@@ -14,7 +14,7 @@ ghost use Rattle.target_file.specs.Tables.{LaidOut, tableBy};
 // The names, once the layout is whole.
 fn names_loaded(file: &[u8], starts: &mut [u16; 2048]) -> Checked
     requires { ⌜ LaidOut (now file) ⌝ }
-    ensures told { λ r. ⌜ verdictOf r ≡ verdict (code true (arities (codeOf (now (file .entry)))) (now (file .entry)) 0) ⌝ }
+    ensures bareStop { λ r. ⌜ verdictOf r ≡ verdict (code true (arities (codeOf (now (file .entry)))) (now (file .entry)) 0) ⌝ }
     ensures table { λ r. ⌜ now (starts .exit) ≡ tableBy (verdictOf r) (now (file .entry)) (now (starts .entry)) ⌝ }
 {
     let tables = walk::tables_of(file);
@@ -32,7 +32,7 @@ fn names_loaded(file: &[u8], starts: &mut [u16; 2048]) -> Checked
 
 // The check, and where the file is accepted its table. 1 and 2; 15; then 3 to 6 and 12 over the whole file; then 9, 10, 11, 13 and 19 to 21 over the whole file.
 pub fn load(file: &[u8], starts: &mut [u16; 2048]) -> Checked
-    ensures told { λ r. ⌜ verdictOf r ≡ checkOf (now (file .entry)) ⌝ }
+    ensures bareStop { λ r. ⌜ verdictOf r ≡ checkOf (now (file .entry)) ⌝ }
     ensures table { λ r. ⌜ now (starts .exit) ≡ tableBy (verdictOf r) (now (file .entry)) (now (starts .entry)) ⌝ }
 {
     match layout::code_end(file, &file[..0], false) {

@@ -1,5 +1,5 @@
--- The names in a node. Definitions: Names; Standing has what functions over a node are asked.
+-- The names in a node. Definitions: Names; Asked has what functions over a node are asked.
 pub mod Names
-pub mod Standing
+pub mod Asked
 -- Laws.
 pub mod NamesLaws

@@ -16,9 +16,9 @@ use Rattle.target_tags.proofs.tag.Tag.{the-type}
 use Rattle.target_tags.specs.declared.tag.Tag.{Tag}
 use Rattle.target_tags.specs.declared.tag.Tag.the-variants.{Jump}
 use Rattle.target_tags.specs.Tag.{slotsIn, tagAt}
-use Rattle.target_tags.specs.ViewLaws.{View, isConstant, isCopy, isDifference, isJump, isResume, isHandle, isBranch, isContinuation, isBoth, isDifferenceOrRaise, isRefused, seen}
+use Rattle.target_tags.specs.ViewLaws.{View, isConstant, isCopy, isDifference, isJump, isResume, isHandle, isBranch, isContinuation, isContinuationWithHandler, isDifferenceOrRaise, isRefused, seen}
 use Rattle.target_slots.specs.Slots.{reads}
-use Rattle.target_names.specs.Standing.{NoJump}
+use Rattle.target_names.specs.Asked.{NoJump}
 use Rattle.target_names.specs.Names.{values, namesOf, judged}
 
 -- The first of several values, and the others.
@@ -59,6 +59,6 @@ jump-fits s at g k h n next t is e = go (seen s at t is) e
     go (isHandle e h) w = let o : _≡_ {A = ℕ} 0 1 = cc in absurd (omega arith)
     go (isBranch e h) w = let o : _≡_ {A = ℕ} 0 1 = cc in absurd (omega arith)
     go (isContinuation e h) w = let o : _≡_ {A = ℕ} 0 1 = cc in absurd (omega arith)
-    go (isBoth e h) w = let o : _≡_ {A = ℕ} 0 1 = cc in absurd (omega arith)
+    go (isContinuationWithHandler e h) w = let o : _≡_ {A = ℕ} 0 1 = cc in absurd (omega arith)
     go (isDifferenceOrRaise e h) w = let o : _≡_ {A = ℕ} 0 1 = cc in absurd (omega arith)
     go (isRefused r) w = let o : _≡_ {A = ℕ} 0 1 = cc in absurd (omega arith)

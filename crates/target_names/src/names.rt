@@ -21,7 +21,7 @@ ghost use Prim.Native.Nat.{ℕ, _+_, _≤_};
 ghost use Rattle.parsing.specs.Parser.{orElse, verdictOf};
 ghost use Rattle.target_tags.specs.Tag.{fileLimit};
 ghost use Rattle.target_slots.specs.Slots.{wholeKind, continuationKind, binds, reads};
-ghost use Rattle.target_names.specs.Standing.{Stands, NoJump};
+ghost use Rattle.target_names.specs.Asked.{NodeAt, NoJump};
 ghost use Rattle.target_names.specs.Names.{function, arity, values, readsNumber, bindsNumber, differenceNames, jumpNames, handleNames, continuationWithHandlerNames, namesOf, judged};
 
 // The function of a jump, among functions with these numbers of parameters.
@@ -285,7 +285,7 @@ fn names_of(
     at: usize,
     tag: Tag,
 ) -> Checked
-    requires { ⌜ Stands (now file) at tag ⌝ }
+    requires { ⌜ NodeAt (now file) at tag ⌝ }
     ensures { λ r. ⌜ verdictOf r ≡ namesOf slots (now (params .entry)) kinds (now (file .entry)) at tag ⌝ }
 {
     match tag {
@@ -321,7 +321,7 @@ pub fn judge(
     at: usize,
     tag: Tag,
 ) -> Checked
-    requires { ⌜ Stands (now file) at tag ⌝ }
+    requires { ⌜ NodeAt (now file) at tag ⌝ }
     ensures { λ r. ⌜ verdictOf r ≡ judged names (now (params .entry)) kinds (now (file .entry)) at tag ⌝ }
 {
     if names {

@@ -1,5 +1,5 @@
 -- Laws of the texts: how long they are, and how a run stopped.
-use Prim.Native.Nat.{ℕ, _+_, _-_, _≤_}
+use Prim.Native.Nat.{ℕ, _+_, _≤_}
 use native.Mathlib.Omega.{arith}
 use mathlib.Core.Path.{_≡_, sym, ap, _∙_}
 use mathlib.Core.Bool.{Bool, true, false, cond}
@@ -78,13 +78,13 @@ stopped-as version s t p = ap (λ (y : Stopped). stopText version (stoppedAs y))
 
 -- The number raised, by the version.
 module _ (version : ℕ) (z : ℤ) where
-  pub raised-told : (x : ℤ) → version ≡ 2 → x ≡ z → space ++ signed x ≡ raisedText version z
+  pub raised-printed : (x : ℤ) → version ≡ 2 → x ≡ z → space ++ signed x ≡ raisedText version z
   unfolding raisedText
-  raised-told x e q = rw (eq-eqb version 2 e, q)
+  raised-printed x e q = rw (eq-eqb version 2 e, q)
 
-  pub raised-untold : (version ≡ 2 → ⊥) → [] ≡ raisedText version z
+  pub raised-omitted : (version ≡ 2 → ⊥) → [] ≡ raisedText version z
   unfolding raisedText
-  raised-untold e = rw (ne-eqb version 2 e)
+  raised-omitted e = rw (ne-eqb version 2 e)
 
 -- Nothing is written.
 pub wrote-none : {at : ℕ} {d : List ℕ} → at ≤ length d → WroteText at [] d at d

@@ -21,9 +21,9 @@ use Rattle.translator_bytes.specs.Bytes.{tabled, operationBytes, operationSize}
 use Rattle.translator_bytes.specs.declared.jumps.Under.{Under}
 use Rattle.translator_sizes.specs.Parts.{bytesAt}
 use Rattle.byte_writers.specs.Writes.{Room, Wrote}
-use Rattle.translator_bytes.specs.Writes.{CallStands}
+use Rattle.translator_bytes.specs.Writes.{CallInFile}
 use Rattle.byte_writers.specs.WriteLaws.{room-as, room-front, Rest, rest-none, rest-as, rest-more, rest-done}
-use Rattle.translator.specs.Standing.{Numbered, Placed}
+use Rattle.translator.specs.Asked.{Numbered, Placed}
 use Rattle.translator_sizes.specs.OperationLaws.{Fine, fine, following, split-at, operation-size}
 use Rattle.translator_sizes.specs.CountLaws.{goes-on, never-halts}
 use Rattle.translator_bytes.specs.Bytes.{callBytes}
@@ -114,7 +114,7 @@ module _ {s ns : List ℕ} {base v at : ℕ} (P : Placed s ns base v at) where
     fine-call : Fine s at (Call x g n m)
     fine-call = subst (Fine s at) e (fine (P .here))
 
-    pub call-stands : CallStands s at n
+    pub call-stands : CallInFile s at n
     unfolding countOf
     call-stands = record { count = sym (ap countOf e); long = fine-call .2; numbers = arm-numbers refl }
 

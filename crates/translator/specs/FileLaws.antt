@@ -27,7 +27,7 @@ use Rattle.translator_sizes.specs.Parts.{partBytes, fieldsOf, labelBytes, funct
 use Rattle.byte_writers.specs.Writes.{Room, Wrote}
 use Rattle.byte_writers.specs.WriteLaws.{room-less, room-as, room-behind, room-behind-two, wrote-after}
 use Rattle.translator_bytes.specs.JumpLaws.{pair-as}
-use Rattle.translator.specs.Standing.{Placed, Numbered}
+use Rattle.translator.specs.Asked.{Placed, Numbered}
 use Rattle.translator_sizes.specs.PartLaws.{label-here, label-is}
 
 -- The numbers of functions.

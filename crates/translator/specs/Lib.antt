@@ -1,6 +1,6 @@
--- The translator. Definitions, in reading order: Translated (what is published), Standing (what private functions are asked).
+-- The translator. Definitions, in reading order: Translated (what is published), Asked (what private functions are asked).
 pub mod Translated
-pub mod Standing
+pub mod Asked
 -- Laws.
 pub mod BlockLaws
 pub mod PartLaws

@@ -12,7 +12,7 @@ use Rattle.byte_writers.specs.Writes.{Room, Wrote}
 use Rattle.byte_writers.specs.WriteLaws.{room-less, room-as, room-behind, room-behind-two, wrote-after}
 use Rattle.translator_bytes.specs.LengthLaws.{length-zeros}
 use Rattle.translator_bytes.specs.JumpLaws.{pair-as}
-use Rattle.translator_sizes.specs.Standing.{BlockSize}
+use Rattle.translator_sizes.specs.Asked.{BlockSize}
 use Rattle.translator_sizes.specs.PartLaws.{part-size}
 
 module _ (s : List ℕ) (base p n : ℕ) (u : Under) (at : ℕ) {o : ℕ} {d : List ℕ} (R : Room o (length (partBytes s base p n u at)) d) where

@@ -8,7 +8,7 @@ use Rattle.semantics.specs.Translation.{translate}
 use Rattle.parsing.specs.Refusals.{noRoom, translationTooLong}
 use Rattle.parsing.specs.Parser.{Verdict, orElse, refusedUnless}
 use Rattle.target_tags.specs.Tag.{fileLimit}
-use Rattle.runs.specs.Tells.{Tells, refuses, tells, tellsBy, leaves}
+use Rattle.runs.specs.Tells.{Tells, refuses, tells, byVerdict, leaves}
 use Rattle.procedure_file.specs.Check.{checkOf, programOf}
 use Rattle.target_file.specs.Writing.{writing}
 use Rattle.translator.specs.declared.Translated.{Translated}
@@ -19,9 +19,9 @@ unfoldable pub translationOf : List ℕ → List ℕ
 translationOf s = writing (translate (programOf s))
 
 -- The translator's answer in document 01's numbers: the bytes of the translation, or a refusal's number and place.
-abbrev pub toldBy : Translated → Tells ℕ
-toldBy (Written n) = tells n
-toldBy (Refused r) = refuses (r .number) (r .place)
+abbrev pub meaning : Translated → Tells ℕ
+meaning (Written n) = tells n
+meaning (Refused r) = refuses (r .number) (r .place)
 
 -- "17 translation above 65,535 bytes"; "16 .. a lent buffer too short (.. the whole translation)"; "then 14, 17, 16. Places of 14, 16 and
 -- 17 are 0."
@@ -34,7 +34,7 @@ translateVerdict s room = orElse (checkOf s) (roomVerdict (length (translationOf
 
 -- The answer for a file and an output of some length.
 unfoldable pub answerOf : List ℕ → ℕ → Tells ℕ
-answerOf s room = tellsBy (translateVerdict s room) (length (translationOf s))
+answerOf s room = byVerdict (translateVerdict s room) (length (translationOf s))
 
 -- What the output holds afterwards.
 unfoldable pub outputOf : List ℕ → List ℕ → List ℕ

@@ -22,7 +22,7 @@ ghost use Rattle.procedure_operations.specs.Operation.{operationAt, argumentsAt
 ghost use Rattle.byte_writers.specs.Writes.{Room, Wrote};
 ghost use Rattle.translator_bytes.specs.Bytes.{tabled, callBytes, callSize, operationBytes, operationSize};
 ghost use Rattle.translator_sizes.specs.Parts.{bytesAt};
-ghost use Rattle.translator.specs.Standing.{Placed};
+ghost use Rattle.translator.specs.Asked.{Placed};
 
 // 4 call: the callee's number in the translation is taken from the table.
 fn put_called(

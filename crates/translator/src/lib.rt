@@ -14,9 +14,9 @@ use translator_sizes::function_size;
 ghost use mathlib.Core.Path.{_≡_};
 ghost use lib.ListN.{length};
 ghost use Rattle.parsing.specs.Parser.{verdictOf};
-ghost use Rattle.runs.specs.Tells.{tellsBy, leaves};
+ghost use Rattle.runs.specs.Tells.{byVerdict, leaves};
 ghost use Rattle.procedure_file.specs.Loaded.{Loaded};
-ghost use Rattle.translator.specs.Translated.{translationOf, toldBy, roomVerdict, answerOf, outputOf};
+ghost use Rattle.translator.specs.Translated.{translationOf, meaning, roomVerdict, answerOf, outputOf};
 
 // The translator's answer: the length of the translation, or a refusal.
 pub enum Translated {
@@ -53,7 +53,7 @@ pub fn room_checked(size: usize, room: usize) -> Checked
 // The translation of a loaded file: 17 and 16 are decided by its size, before the first byte is written.
 pub fn translate_loaded(file: &[u8], starts: &[u16; 2048], out: &mut [u8]) -> Translated
     requires { ⌜ Loaded (now file) (now starts) ⌝ }
-    ensures { λ r. ⌜ (toldBy r ≡ tellsBy (roomVerdict (length (translationOf (now (file .entry)))) (length (now (out .entry)))) (length (translationOf (now (file .entry))))) × (now (out .exit) ≡ leaves (roomVerdict (length (translationOf (now (file .entry)))) (length (now (out .entry)))) (translationOf (now (file .entry))) (now (out .entry))) ⌝ }
+    ensures { λ r. ⌜ (meaning r ≡ byVerdict (roomVerdict (length (translationOf (now (file .entry)))) (length (now (out .entry)))) (length (translationOf (now (file .entry))))) × (now (out .exit) ≡ leaves (roomVerdict (length (translationOf (now (file .entry)))) (length (now (out .entry)))) (translationOf (now (file .entry))) (now (out .entry))) ⌝ }
 {
     let size = translation_size(file, starts);
     match room_checked(size, out.len()) {
@@ -67,7 +67,7 @@ pub fn translate_loaded(file: &[u8], starts: &[u16; 2048], out: &mut [u8]) -> Tr
 
 // The translated file of a procedure file, written into the output that is lent.
 pub fn translate(file: &[u8], out: &mut [u8]) -> Translated
-    ensures { λ r. ⌜ (toldBy r ≡ answerOf (now (file .entry)) (length (now (out .entry)))) × (now (out .exit) ≡ outputOf (now (file .entry)) (now (out .entry))) ⌝ }
+    ensures { λ r. ⌜ (meaning r ≡ answerOf (now (file .entry)) (length (now (out .entry)))) × (now (out .exit) ≡ outputOf (now (file .entry)) (now (out .entry))) ⌝ }
 {
     let mut starts = [0u16; 2048];
     match load(file, &mut starts) {

@@ -17,7 +17,7 @@ ghost use Rattle.semantics.specs.Program.{functionOf};
 ghost use Rattle.semantics.specs.Translation.{number, translate};
 ghost use Rattle.byte_writers.specs.Writes.{Room, Wrote};
 ghost use Rattle.translator_sizes.specs.Parts.{partBytes, labelBytes, functionBytes, functionsBytes};
-ghost use Rattle.translator.specs.Standing.{Placed, Numbered};
+ghost use Rattle.translator.specs.Asked.{Placed, Numbered};
 ghost use Rattle.translator.specs.Translated.{translationOf};
 
 // A function of the translated file: it binds n locals and goes on as the block at an offset.

@@ -15,7 +15,7 @@ use Rattle.procedure_fields.specs.declared.fields.ConstantBytes.{ConstantBytes}
 use Rattle.procedure_fields.specs.Number.{countOf}
 use Rattle.procedure_fields.specs.NumberLaws.{argument-in-range}
 use Rattle.byte_writers.specs.Writes.{Room, Wrote}
-use Rattle.translator_bytes.specs.Writes.{CallStands}
+use Rattle.translator_bytes.specs.Writes.{CallInFile}
 use Rattle.byte_writers.specs.WriteLaws.{room-less, room-as, room-behind, room-behind-two, wrote-after, room-front, Rest, rest-none, rest-as, rest-more, rest-done}
 use Rattle.translator_bytes.specs.ListLaws.{arguments-more}
 use Rattle.translator_bytes.specs.Bytes.{ifAny, sizeIfAny, labelJump, callJump, plainCall, guardedHead, guardedCall, branchBytes, raiseEnd, raiseEndSize, raiseBytes, raiseSize, raiseValueBytes, raiseValueSize, differenceBytes, callBytes, callSize}
@@ -28,10 +28,10 @@ pair-as {o} {r = r} {d = d} {d′ = d′} e W = subst (λ (k : ℕ). Wrote o (pa
 
 -- The loop over a call's arguments, from the i-th on.
 pub record Passing (s : List ℕ) (at n o₀ : ℕ) (d₀ : List ℕ) (i o : ℕ) (d : List ℕ) : Type 0 where
-  pub ready : CallStands s at n
+  pub ready : CallInFile s at n
   pub rest : Rest o₀ (map slotOf (argumentsAt s at n)) d₀ o (map slotOf (drop i (argumentsAt s at n))) d
 
-pub passing-none : {s : List ℕ} {at n o : ℕ} {d : List ℕ} → CallStands s at n → Room o n d → Passing s at n o d 0 o d
+pub passing-none : {s : List ℕ} {at n o : ℕ} {d : List ℕ} → CallInFile s at n → Room o n d → Passing s at n o d 0 o d
 passing-none {s} {at} {n} C R = record { ready = C; rest = rest-none (room-as (length-map (argumentsAt s at n) slotOf ∙ C .long) R) }
 
 module _ {s : List ℕ} {at n o₀ : ℕ} {d₀ : List ℕ} {i o : ℕ} {d : List ℕ} (K : Passing s at n o₀ d₀ i o d) where

@@ -10,7 +10,7 @@ use Rattle.semantics.specs.Translation.{slotOf, slotsFrom}
 use Rattle.procedure_operations.specs.Operation.{argumentsAt}
 use Rattle.translator_bytes.specs.Bytes.{ifAny, sizeIfAny, jumpHead, labelJump, callJump, guardedHead, zeros}
 use Rattle.byte_writers.specs.Writes.{Wrote}
-use Rattle.translator_bytes.specs.Writes.{CallStands}
+use Rattle.translator_bytes.specs.Writes.{CallInFile}
 
 pub length-slots : (x n : ℕ) → length (slotsFrom x n) ≡ n
 length-slots x zero = refl
@@ -50,5 +50,5 @@ module _ {o r : ℕ} {d d′ : List ℕ} where
   pub label-jump-written : (base v l : ℕ) → Wrote o (labelJump base v l) d r d′ → r ≡ o + (6 + v)
   label-jump-written base v l W = W .next ∙ ap (λ (n : ℕ). o + n) (label-size base v l)
 
-  pub call-jump-written : (s : List ℕ) (at g k h n : ℕ) → CallStands s at n → Wrote o (callJump g k h n (argumentsAt s at n)) d r d′ → r ≡ o + (6 + n)
+  pub call-jump-written : (s : List ℕ) (at g k h n : ℕ) → CallInFile s at n → Wrote o (callJump g k h n (argumentsAt s at n)) d r d′ → r ≡ o + (6 + n)
   call-jump-written s at g k h n C W = W .next ∙ ap (λ (m : ℕ). o + m) (call-size g k h n (argumentsAt s at n) (C .long))

@@ -8,7 +8,7 @@ use Rattle.procedure_operations.specs.Ranges.{NumbersInRange}
 use Rattle.procedure_fields.specs.Number.{countOf}
 
 -- A call with n arguments stands at an offset of the file.
-pub record CallStands (s : List ℕ) (at n : ℕ) : Type 0 where
+pub record CallInFile (s : List ℕ) (at n : ℕ) : Type 0 where
   pub count : n ≡ countOf (operationAt s at)
   pub long : length (argumentsAt s at n) ≡ n
   pub numbers : NumbersInRange s at (operationAt s at)

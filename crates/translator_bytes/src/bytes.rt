@@ -11,7 +11,7 @@ ghost use Rattle.semantics.specs.Translation.{slotOf, slotsFrom};
 ghost use Rattle.procedure_operations.specs.Numbers.{maxVariables};
 ghost use Rattle.procedure_operations.specs.Operation.{argumentsAt};
 ghost use Rattle.byte_writers.specs.Writes.{Room, Wrote};
-ghost use Rattle.translator_bytes.specs.Writes.{CallStands};
+ghost use Rattle.translator_bytes.specs.Writes.{CallInFile};
 ghost use Rattle.translator_bytes.specs.Bytes.{zeros};
 
 // The n slots from `first` upward.
@@ -42,7 +42,7 @@ pub fn slot_of(x: VariableNumber) -> u8
 
 // The slots of the n arguments of the call at an offset.
 pub fn put_arguments(file: &[u8], at: usize, out: &mut [u8], o: usize, n: u8) -> usize
-    requires { ⌜ CallStands (now file) at n ⌝ }
+    requires { ⌜ CallInFile (now file) at n ⌝ }
     requires { ⌜ Room o n (now out) ⌝ }
     ensures { λ r. ⌜ Wrote o (map slotOf (argumentsAt (now (file .entry)) at n)) (now (out .entry)) r (now (out .exit)) ⌝ }
 {

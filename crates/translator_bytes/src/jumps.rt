@@ -10,7 +10,7 @@ ghost use Rattle.parsing.specs.Bytes.{valueBytes};
 ghost use Rattle.procedure_operations.specs.Numbers.{maxVariables};
 ghost use Rattle.procedure_operations.specs.Operation.{argumentsAt};
 ghost use Rattle.byte_writers.specs.Writes.{Room, Wrote};
-ghost use Rattle.translator_bytes.specs.Writes.{CallStands};
+ghost use Rattle.translator_bytes.specs.Writes.{CallInFile};
 ghost use Rattle.translator_bytes.specs.Bytes.{ifAny, sizeIfAny, jumpHead, labelJump, callJump, plainCall, guardedHead, guardedCall, branchBytes, raiseEnd, raiseEndSize, raiseBytes, raiseSize, raiseValueBytes, raiseValueSize, differenceBytes, callBytes, callSize};
 
 // What a block is translated under: the count of variables, the handler in force (0 for none), and two slots (0 for none): the one that a raise there binds first,
@@ -107,7 +107,7 @@ fn put_call_jump(
     h: u8,
     n: u8,
 ) -> usize
-    requires { ⌜ (g < 65536) × CallStands (now file) at n ⌝ }
+    requires { ⌜ (g < 65536) × CallInFile (now file) at n ⌝ }
     requires { ⌜ Room o (6 + n) (now out) ⌝ }
     ensures { λ r. ⌜ Wrote o (callJump g k h n (argumentsAt (now (file .entry)) at n)) (now (out .entry)) r (now (out .exit)) ⌝ }
 {
@@ -125,7 +125,7 @@ fn put_plain_call(
     g: usize,
     n: u8,
 ) -> usize
-    requires { ⌜ (v ≤ maxVariables) × (x .0 < maxVariables) × (n ≤ maxVariables) × (g < 65536) × CallStands (now file) at n ⌝ }
+    requires { ⌜ (v ≤ maxVariables) × (x .0 < maxVariables) × (n ≤ maxVariables) × (g < 65536) × CallInFile (now file) at n ⌝ }
     requires { ⌜ Room o (5 + (6 + n)) (now out) ⌝ }
     ensures { λ r. ⌜ Wrote o (plainCall v (x .0) g n (argumentsAt (now (file .entry)) at n)) (now (out .entry)) r (now (out .exit)) ⌝ }
 {
@@ -157,7 +157,7 @@ fn put_guarded_call(
     g: usize,
     n: u8,
 ) -> usize
-    requires { ⌜ (base ≤ 2048) × (u .variables ≤ maxVariables) × (x .0 < maxVariables) × (n ≤ maxVariables) × (g < 65536) × CallStands (now file) at n ⌝ }
+    requires { ⌜ (base ≤ 2048) × (u .variables ≤ maxVariables) × (x .0 < maxVariables) × (n ≤ maxVariables) × (g < 65536) × CallInFile (now file) at n ⌝ }
     requires { ⌜ Room o (8 + sizeIfAny (u .numberSlot) 1 + ((6 + n) + (6 + u .variables))) (now out) ⌝ }
     ensures { λ r. ⌜ Wrote o (guardedCall base u (x .0) g n (argumentsAt (now (file .entry)) at n)) (now (out .entry)) r (now (out .exit)) ⌝ }
 {
@@ -186,7 +186,7 @@ pub fn put_call(
     g: usize,
     n: u8,
 ) -> usize
-    requires { ⌜ (base ≤ 2048) × (u .variables ≤ maxVariables) × (x .0 < maxVariables) × (n ≤ maxVariables) × (g < 65536) × CallStands (now file) at n ⌝ }
+    requires { ⌜ (base ≤ 2048) × (u .variables ≤ maxVariables) × (x .0 < maxVariables) × (n ≤ maxVariables) × (g < 65536) × CallInFile (now file) at n ⌝ }
     requires { ⌜ Room o (callSize u n) (now out) ⌝ }
     ensures { λ r. ⌜ Wrote o (callBytes base u (x .0) g n (argumentsAt (now (file .entry)) at n)) (now (out .entry)) r (now (out .exit)) ⌝ }
 {

@@ -16,14 +16,14 @@ use Rattle.procedure_file.specs.Check.{programOf}
 use Rattle.translator_bytes.specs.Bytes.{operationBytes, operationSize}
 use Rattle.translator_bytes.specs.declared.jumps.Under.{Under}
 use Rattle.translator_sizes.specs.Parts.{bytesAt}
-use Rattle.translator_sizes.specs.Standing.{OperationStands, CountInRange, BlockSize}
+use Rattle.translator_sizes.specs.Asked.{OperationInFile, CountInRange, BlockSize}
 use Rattle.translator_sizes.specs.OperationLaws.{Fine, variables-bound, within, fine, of-bound, operation-size, following, split-at}
 
 -- An operation does not end the block: the next one stands where it leads.
-pub goes-on : {s : List ℕ} {v at m : ℕ} → OperationStands s v at → afterOf (operationAt s at) ≡ Onward m → OperationStands s v m
+pub goes-on : {s : List ℕ} {v at m : ℕ} → OperationInFile s v at → afterOf (operationAt s at) ≡ Onward m → OperationInFile s v m
 goes-on {s} {v} {at} {m} H e = record { invariant = H .invariant; function = H .function; stands = H .invariant .next (H .function) at m (H .stands) e; vars = H .vars }
 
-pub never-halts : {s : List ℕ} {v at : ℕ} {r : Refusal} {A : Type 0} → OperationStands s v at → afterOf (operationAt s at) ≡ Halted r → A
+pub never-halts : {s : List ℕ} {v at : ℕ} {r : Refusal} {A : Type 0} → OperationInFile s v at → afterOf (operationAt s at) ≡ Halted r → A
 never-halts {s} {v} {at} {r} {A} H e = go (operationAt s at) (fine H) e
   where
     go : (o : Operation) → Fine s at o → afterOf o ≡ Halted r → A
@@ -40,11 +40,11 @@ never-halts {s} {v} {at} {r} {A} H e = go (operationAt s at) (fine H) e
 
 -- Counting a block: n bytes for the operations passed.
 pub record Counting (s : List ℕ) (u : Under) (start at n : ℕ) : Type 0 where
-  pub here : OperationStands s (u .variables) at
+  pub here : OperationInFile s (u .variables) at
   pub is : (base : ℕ) → n + length (bytesAt s base u at) ≡ length (bytesAt s base u start)
   pub sizeBound : n ≤ 128 * at
 
-pub count-none : {s : List ℕ} {u : Under} {start : ℕ} → OperationStands s (u .variables) start → Counting s u start start 0
+pub count-none : {s : List ℕ} {u : Under} {start : ℕ} → OperationInFile s (u .variables) start → Counting s u start start 0
 count-none {s} {u} {start} H = record { here = H; is = λ base. omega arith; sizeBound = omega arith }
 
 module _ {s : List ℕ} {u : Under} {start at n : ℕ} (T : Counting s u start at n) {x : Operation} (e : x ≡ operationAt s at) where

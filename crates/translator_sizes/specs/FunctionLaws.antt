@@ -17,7 +17,7 @@ use Rattle.procedure_file.specs.Check.{programOf}
 use Rattle.procedure_file.specs.Places.{noLabelled}
 use Rattle.target_file.specs.Writing.{targetBytes}
 use Rattle.translator_sizes.specs.Parts.{partOf, labelBytes, functionBytes}
-use Rattle.translator_sizes.specs.Standing.{LabelSize}
+use Rattle.translator_sizes.specs.Asked.{LabelSize}
 
 noTarget : Target
 noTarget = record { version = 1; params = 0; body = handle 0 none }

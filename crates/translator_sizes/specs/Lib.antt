@@ -1,6 +1,6 @@
--- The size of what a procedure file is translated to. Definitions, in reading order: Parts (the bytes of each part), Standing (what the functions are asked and give).
+-- The size of what a procedure file is translated to. Definitions, in reading order: Parts (the bytes of each part), Asked (what the functions are asked and give).
 pub mod Parts
-pub mod Standing
+pub mod Asked
 -- Laws.
 pub mod SizeLaws
 pub mod UnderLaws

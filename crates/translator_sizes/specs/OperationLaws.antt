@@ -1,5 +1,5 @@
 -- What stands at an offset of an accepted file, and the bytes that it becomes before the rest of its block.
-use Prim.Native.Nat.{ℕ, _+_, _≤_, _<_}
+use Prim.Native.Nat.{ℕ, _≤_, _<_}
 use native.Mathlib.Omega.{arith}
 use mathlib.Core.Path.{_≡_, refl, sym, ap, _∙_, subst}
 use mathlib.Core.List.{List, [], _++_, append-nil}
@@ -20,7 +20,7 @@ use Rattle.translator_bytes.specs.declared.jumps.Under.{Under}
 use Rattle.translator_bytes.specs.Bytes.{labelJump, branchBytes, raiseBytes, raiseValueBytes, callBytes, operationBytes, operationSize}
 use Rattle.translator_bytes.specs.LengthLaws.{label-size}
 use Rattle.translator_sizes.specs.Parts.{bodyBytes, bytesAt}
-use Rattle.translator_sizes.specs.Standing.{OperationStands, CountInRange}
+use Rattle.translator_sizes.specs.Asked.{OperationInFile, CountInRange}
 use Rattle.translator_sizes.specs.SizeLaws.{called-size, branch-size, raise-size, raise-value-size, difference-size}
 
 -- What a call's callee and arguments are; no operation is a refusal.
@@ -36,7 +36,7 @@ Fine s at (Raise next) = Unit {0}
 Fine s at (RaiseValue y next) = Unit {0}
 Fine s at (Refused r) = ⊥
 
-module _ {s : List ℕ} {v at : ℕ} (H : OperationStands s v at) where
+module _ {s : List ℕ} {v at : ℕ} (H : OperationInFile s v at) where
   pub variables-bound : v ≤ 32
   variables-bound =
       let k = H .invariant .counts (H .function) (H .stands .there) in
@@ -122,7 +122,7 @@ split ns base u s at (Raise next) f = sym (append-nil (raiseBytes base u))
 split ns base u s at (RaiseValue y next) f = sym (append-nil (raiseValueBytes base u y))
 split ns base u s at (Refused r) f = absurd f
 
-pub split-at : {s : List ℕ} {v at : ℕ} (base : ℕ) (u : Under) → OperationStands s v at
+pub split-at : {s : List ℕ} {v at : ℕ} (base : ℕ) (u : Under) → OperationInFile s v at
     → bytesAt s base u at ≡ operationBytes (number (programOf s)) base u s at (operationAt s at) ++ following (afterOf (operationAt s at)) (λ m. bytesAt s base u m)
 unfolding bytesAt
 split-at {s} {v} {at} base u H =

@@ -19,7 +19,7 @@ use Rattle.translator_bytes.specs.declared.jumps.Under.{Under}
 use Rattle.translator_bytes.specs.Bytes.{zeros}
 use Rattle.translator_sizes.specs.declared.Fields.{Fields}
 use Rattle.translator_sizes.specs.Parts.{underOf, bodyBytes, bytesAt, partBytes, byLabel, fieldsOf, labelBytes}
-use Rattle.translator_sizes.specs.Standing.{OperationStands, BlockSize, LabelSize}
+use Rattle.translator_sizes.specs.Asked.{OperationInFile, BlockSize, LabelSize}
 use Rattle.translator_bytes.specs.LengthLaws.{length-zeros}
 use Rattle.translator_sizes.specs.BodyLaws.{body-is}
 use Rattle.target_file.specs.ReadsBackLaws.{bytes-length}
@@ -85,7 +85,7 @@ module _ {s starts : List ℕ} (L : Loaded s starts) where
 
     -- The part of one block, from its fields.
     module _ (l : ℕ) (block : l ≤ length (F .blocks)) (x : Fields) (e : x ≡ fieldsOf (programOf s) f l) where
-      pub label-here : OperationStands s (x .under .variables) (x .start)
+      pub label-here : OperationInFile s (x .under .variables) (x .start)
       unfolding fieldsOf underOf
       label-here = rw e (record { invariant = known; function = f; stands = known .start f l there block; vars = refl })
 

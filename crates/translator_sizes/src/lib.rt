@@ -21,7 +21,7 @@ ghost use Rattle.semantics.specs.Translation.{receiverAt, receiverSlot, lastSlo
 ghost use Rattle.semantics.specs.SlotCount.{larger, slotsUsed};
 ghost use Rattle.translator_bytes.specs.Bytes.{raiseSize, callSize, operationSize};
 ghost use Rattle.translator_sizes.specs.Parts.{slotByte, underOf, fieldsOf, functionBytes};
-ghost use Rattle.translator_sizes.specs.Standing.{OperationStands, CountInRange, BlockSize, LabelSize};
+ghost use Rattle.translator_sizes.specs.Asked.{OperationInFile, CountInRange, BlockSize, LabelSize};
 
 fn call_size(u: Under, n: u8) -> usize
     requires { ⌜ (u .variables ≤ maxVariables) × (n ≤ maxVariables) ⌝ }
@@ -80,7 +80,7 @@ fn operation_size(u: Under, x: Operation) -> usize
 
 // The size of the block whose first operation stands at `start`.
 pub fn block_size(file: &[u8], u: Under, start: usize) -> usize
-    requires { ⌜ OperationStands (now file) (u .variables) start ⌝ }
+    requires { ⌜ OperationInFile (now file) (u .variables) start ⌝ }
     ensures { λ r. ⌜ BlockSize (now (file .entry)) u start r ⌝ }
 {
     let mut at = start;

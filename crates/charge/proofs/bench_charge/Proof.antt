@@ -5,7 +5,7 @@ use mathlib.Core.Path.{sym, ap, _∙_}
 use borrow.Author.Needs.{needs}
 use Rattle.parsing.specs.Parser.{verdictOf}
 use Rattle.runs.specs.Stopped.{stoppedAs}
-use Rattle.bench.specs.Published.{saidBy}
+use Rattle.bench.specs.Published.{summaryOf}
 use Rattle.charge.specs.Charge.{maxSteps, charge}
 use Rattle.charge.specs.ChargeLaws.{past-uncharged, extras-added}
 use Rattle.charge.proofs.bench_charge.Statement.{statement}
@@ -23,7 +23,7 @@ returns c =
     let past : maxSteps < a .steps + a .extras = omega arith in
     c .no-charge .ensures
     ∙ sym
-    (ap charge (extras-added (verdictOf (a .verdict)) (saidBy a)) ∙ past-uncharged (verdictOf (a .verdict)) (stoppedAs (a .stopped)) (a .steps + a .extras) past)
+    (ap charge (extras-added (verdictOf (a .verdict)) (summaryOf a)) ∙ past-uncharged (verdictOf (a .verdict)) (stoppedAs (a .stopped)) (a .steps + a .extras) past)
 
 add-sum : tie.Need-add-sum
 add-sum c = search needs
@@ -34,7 +34,7 @@ charge-of-requires c κs = search needs
 returns-2 : tie.Need-returns-2
 returns-2 c =
     let a = c .before .before .args .a in
-    c .charge-of .ensures ∙ sym (ap charge (extras-added (verdictOf (a .verdict)) (saidBy a)))
+    c .charge-of .ensures ∙ sym (ap charge (extras-added (verdictOf (a .verdict)) (summaryOf a)))
 
 pub bench-charge-spec : {M : Type 1} → statement M
 bench-charge-spec =

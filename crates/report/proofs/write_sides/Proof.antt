@@ -1,5 +1,5 @@
 -- `report::write_sides` meets its contract.
-use Rattle.report.specs.ReportLaws.{told-refused, told-both, wrote-as}
+use Rattle.report.specs.ReportLaws.{meaning-refused, meaning-both, wrote-as}
 use borrow.Author.Needs.{needs}
 use Rattle.report.proofs.write_sides.Statement.{statement}
 use Rattle.report.proofs.write_sides.Tie as tie
@@ -23,7 +23,7 @@ returns : tie.Need-returns
 returns c =
     let at-verdict = c .before .before .before .before .before in
     let entry = at-verdict .before .before .before in
-    wrote-as (told-refused (entry .args .version) (entry .args .a) (at-verdict .verdict .given .1)) (c .before .before .write-refusal .ensures)
+    wrote-as (meaning-refused (entry .args .version) (entry .args .a) (at-verdict .verdict .given .1)) (c .before .before .write-refusal .ensures)
 
 same-length-2 : tie.Need-same-length-2
 same-length-2 c = search needs
@@ -32,7 +32,7 @@ returns-2 : tie.Need-returns-2
 returns-2 c =
     let at-enum-told = c .before .before .before .before .before .before in
     let entry = at-enum-told .before .before .before in
-    wrote-as (told-both (entry .args .version) (entry .args .a) (at-enum-told .enum-told .given .1)) (c .before .before .write-both .ensures)
+    wrote-as (meaning-both (entry .args .version) (entry .args .a) (at-enum-told .enum-told .given .1)) (c .before .before .write-both .ensures)
 
 pub write-sides-spec : {M : Type 1} → statement M
 write-sides-spec =

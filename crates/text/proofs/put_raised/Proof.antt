@@ -2,7 +2,7 @@
 use native.Mathlib.Omega.{arith}
 use mir.Facts.{toZ-ofZ}
 use Rattle.decimal.specs.DecimalLaws.{wrote-as, wrote-then}
-use Rattle.text.specs.TextLaws.{raised-told, raised-untold, wrote-none}
+use Rattle.text.specs.TextLaws.{raised-printed, raised-omitted, wrote-none}
 use borrow.Author.Needs.{needs}
 use Rattle.text.proofs.put_raised.Statement.{statement}
 use Rattle.text.proofs.put_raised.Tie as tie
@@ -24,12 +24,12 @@ returns c =
     let at-put-bytes = c .before .before .before .before .before .before in
     let at-if1 = at-put-bytes .before .before .before in
     let entry = at-if1 .before .before in
-    wrote-as (raised-told (entry .args .version) (entry .args .number) _ (at-if1 .if1 .taken) (toZ-ofZ (entry .fits .number))) (wrote-then (at-put-bytes .put-bytes .ensures) (c .before .before .put-signed .ensures))
+    wrote-as (raised-printed (entry .args .version) (entry .args .number) _ (at-if1 .if1 .taken) (toZ-ofZ (entry .fits .number))) (wrote-then (at-put-bytes .put-bytes .ensures) (c .before .before .put-signed .ensures))
 
 returns-2 : tie.Need-returns-2
 returns-2 c =
     let entry = c .before .before in
-    wrote-as (raised-untold (entry .args .version) (entry .args .number) (c .if1 .left)) (wrote-none (omega arith))
+    wrote-as (raised-omitted (entry .args .version) (entry .args .number) (c .if1 .left)) (wrote-none (omega arith))
 
 pub put-raised-spec : {M : Type 1} → statement M
 put-raised-spec =

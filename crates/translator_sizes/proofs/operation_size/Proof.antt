@@ -1,6 +1,6 @@
 -- `translator_sizes::operation_size` meets its contract.
 use Rattle.translator_bytes.specs.Bytes.{operationSize}
-use Rattle.translator_sizes.specs.Standing.{CountInRange}
+use Rattle.translator_sizes.specs.Asked.{CountInRange}
 use native.Mathlib.Omega.{arith}
 use mathlib.Core.Path.{sym, ap, _∙_, subst}
 use borrow.Author.Needs.{needs}

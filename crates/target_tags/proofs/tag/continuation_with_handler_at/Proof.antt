@@ -1,4 +1,4 @@
-use Rattle.target_tags.specs.TagLaws.{width-bound, tag-9-cut, tag-9-in}
+use Rattle.target_tags.specs.TagLaws.{width-bound, continuation-with-handler-cut, continuation-with-handler-in}
 use native.Mathlib.Omega.{arith}
 use mathlib.Core.Path.{_∙_}
 use Rattle.parsing.specs.Fields.{versionOf}
@@ -21,7 +21,7 @@ cut-requires c κs = search needs
 returns : tie.Need-returns
 returns c =
     let at-test = c .before in
-    c .cut .ensures ∙ tag-9-cut _ _ _ (at-test .before .number-width .ensures) (at-test .if1 .taken)
+    c .cut .ensures ∙ continuation-with-handler-cut _ _ _ (at-test .before .number-width .ensures) (at-test .if1 .taken)
 
 add-byte-number : tie.Need-add-byte-number
 add-byte-number c = search needs
@@ -78,7 +78,7 @@ returns-2 c =
     let at-byte-number2 = at-byte-number3 .before .before in
     let at-byte-number = at-byte-number2 .before .before in
     let at-number-width = at-byte-number .before .before .before in
-    tag-9-in _ _ _ _ _ _ _ _ (at-number-width .number-width .ensures) (omega arith) (at-byte-number .byte-number .ensures .0) (at-byte-number2 .byte-number2 .ensures .0) (at-byte-number3 .byte-number3 .ensures .0)
+    continuation-with-handler-in _ _ _ _ _ _ _ _ (at-number-width .number-width .ensures) (omega arith) (at-byte-number .byte-number .ensures .0) (at-byte-number2 .byte-number2 .ensures .0) (at-byte-number3 .byte-number3 .ensures .0)
     (at-number-slot-at .number-slot-at .ensures) (c .pair .ensures)
 
 pub continuation-with-handler-at-spec : {M : Type 1} → statement M

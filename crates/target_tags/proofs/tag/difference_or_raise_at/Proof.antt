@@ -1,4 +1,4 @@
-use Rattle.target_tags.specs.TagLaws.{tag-10-cut, tag-10-in}
+use Rattle.target_tags.specs.TagLaws.{difference-or-raise-cut, difference-or-raise-in}
 use native.Mathlib.Omega.{arith}
 use mathlib.Core.Path.{_∙_}
 use borrow.Author.Needs.{needs}
@@ -12,7 +12,7 @@ cut-requires : tie.Need-cut-requires
 cut-requires c κs = search needs
 
 returns : tie.Need-returns
-returns c = c .cut .ensures ∙ tag-10-cut _ _ (c .before .if1 .taken)
+returns c = c .cut .ensures ∙ difference-or-raise-cut _ _ (c .before .if1 .taken)
 
 add-byte-number : tie.Need-add-byte-number
 add-byte-number c = search needs
@@ -61,7 +61,7 @@ returns-2 c =
     let at-byte-number3 = c .before .before .before in
     let at-byte-number2 = at-byte-number3 .before .before in
     let at-byte-number = at-byte-number2 .before .before in
-    tag-10-in _ _ _ _ _ _ (omega arith) (at-byte-number .byte-number .ensures .0) (at-byte-number2 .byte-number2 .ensures .0) (at-byte-number3 .byte-number3 .ensures .0) (c .pair .ensures)
+    difference-or-raise-in _ _ _ _ _ _ (omega arith) (at-byte-number .byte-number .ensures .0) (at-byte-number2 .byte-number2 .ensures .0) (at-byte-number3 .byte-number3 .ensures .0) (c .pair .ensures)
 
 pub difference-or-raise-at-spec : {M : Type 1} → statement M
 difference-or-raise-at-spec =

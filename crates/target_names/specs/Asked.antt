@@ -12,6 +12,6 @@ abbrev pub NoJump : Tag → Type 0
 NoJump t = (g k h n next : ℕ) → t ≢ Jump g k h n next
 
 -- The node stands at this offset of a file within its limit.
-pub record Stands (s : List ℕ) (at : ℕ) (t : Tag) : Type 0 where
+pub record NodeAt (s : List ℕ) (at : ℕ) (t : Tag) : Type 0 where
   pub small : at ≤ fileLimit
   pub is : t ≡ tagAt s at

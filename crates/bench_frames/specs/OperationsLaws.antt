@@ -7,14 +7,14 @@ use Rattle.procedure_operations.specs.declared.operation.Operation.the-variants
 use Rattle.procedure_operations.specs.Operation.{operationAt}
 use Rattle.procedure_layout.specs.Rest.{restAt, restFrom}
 use Rattle.procedure_layout.specs.After.{afterOf}
-use Rattle.procedure_file.specs.FileInvariant.{FileInvariant, Stands}
+use Rattle.procedure_file.specs.FileInvariant.{FileInvariant, OperationsAt}
 
 -- Where the block goes on behind an operation that does not end it.
 abbrev pub GoesOn : List ℕ → ℕ → Operation → Type 0
-GoesOn s f (Constant x i next) = Stands s f next
-GoesOn s f (Copy x y next) = Stands s f next
-GoesOn s f (Difference x y z next) = Stands s f next
-GoesOn s f (Call x g n next) = Stands s f next
+GoesOn s f (Constant x i next) = OperationsAt s f next
+GoesOn s f (Copy x y next) = OperationsAt s f next
+GoesOn s f (Difference x y z next) = OperationsAt s f next
+GoesOn s f (Call x g n next) = OperationsAt s f next
 GoesOn s f (Goto l next) = Unit {0}
 GoesOn s f (Return x next) = Unit {0}
 GoesOn s f (Branch y z l m next) = Unit {0}
@@ -22,7 +22,7 @@ GoesOn s f (Raise next) = Unit {0}
 GoesOn s f (RaiseValue x next) = Unit {0}
 GoesOn s f (Refused r) = ⊥
 
-pub goes-on : {s : List ℕ} {f at : ℕ} → FileInvariant s → Stands s f at → GoesOn s f (operationAt s at)
+pub goes-on : {s : List ℕ} {f at : ℕ} → FileInvariant s → OperationsAt s f at → GoesOn s f (operationAt s at)
 goes-on {s} {f} {at} F S = by (operationAt s at) refl
   where
     by : (o : Operation) → operationAt s at ≡ o → GoesOn s f o

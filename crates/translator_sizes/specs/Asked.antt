@@ -8,15 +8,15 @@ use Rattle.procedure_operations.specs.declared.operation.Operation.{Operation}
 use Rattle.procedure_operations.specs.declared.operation.Operation.the-variants.{Constant, Copy, Difference, Call, Goto, Return, Branch, Raise, RaiseValue, Refused}
 use Rattle.procedure_layout.specs.Layout.{maxVariables}
 use Rattle.procedure_file.specs.Check.{programOf}
-use Rattle.procedure_file.specs.FileInvariant.{FileInvariant, Stands}
+use Rattle.procedure_file.specs.FileInvariant.{FileInvariant, OperationsAt}
 use Rattle.translator_bytes.specs.declared.jumps.Under.{Under}
 use Rattle.translator_sizes.specs.Parts.{bytesAt, labelBytes}
 
 -- An operation of a function with v variables stands at an offset.
-pub record OperationStands (s : List ℕ) (v at : ℕ) : Type 0 where
+pub record OperationInFile (s : List ℕ) (v at : ℕ) : Type 0 where
   pub invariant : FileInvariant s
   pub function : ℕ
-  pub stands : Stands s function at
+  pub stands : OperationsAt s function at
   pub vars : v ≡ variables (functionOf (programOf s) function)
 
 -- The argument count of a call is one that a jump can have, 0 to 32.
