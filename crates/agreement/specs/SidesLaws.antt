@@ -33,7 +33,7 @@ use Rattle.bench.specs.declared.machine.Answer as BenchAnswer
 use Rattle.bench.specs.Published as Bench
 use Rattle.controller.specs.declared.machine.Answer as ControllerAnswer
 use Rattle.controller.specs.Published as Controller
-use Rattle.controller_records.specs.Machine.{SlotsKept}
+use Rattle.controller_records.specs.Steps.{SlotsKept}
 use Rattle.agreement.specs.declared.Sides.{Sides}
 use Rattle.agreement.specs.Statement.{entryOf, controllerBudget, Claim}
 use Rattle.agreement.specs.Sides.{callVerdict, sidesVerdict, SidesSummary, summaryOf, controllerRun, runsSummary, sidesTell, Memory, Ran, refusedSides, CallFits, MachinesRan}

@@ -21,8 +21,8 @@ use Rattle.procedure_layout.specs.Layout.{maxVariables}
 use Rattle.procedure_file.specs.Check.{checkOf, programOf}
 use Rattle.procedure_file.specs.FileInvariant.{OperationsAt}
 use Rattle.bench_frames.specs.Machine.{framesOf, stateOf, FrameStands}
+use Rattle.bench_frames.specs.declared.registers.Regs.{Regs}
 use Rattle.bench.specs.declared.machine.Answer.{Answer}
-use Rattle.bench.specs.RunResult.{zeroRegs, ZeroAtEnd}
 
 -- What an accepted call tells: how the run stopped and the steps taken, and the extras.
 pub record BenchSummary : Type 0 where
@@ -63,6 +63,14 @@ pub record StateGiven (s : List ℕ) (a : Answer) (words : List ℤ) (S : State)
   pub here : OperationsAt s (a .regs .function) (a .regs .at)
   pub frames : (d : ℕ) → d < a .regs .waiting → FrameStands s (frameAt d words)
   pub extras : a .regs .extras ≡ a .extras
+
+-- Registers that stand for no state: all 0, but the extras.
+abbrev pub zeroRegs : ℕ → Regs
+zeroRegs extras = record { function = 0; handler = 0; at = 0; waiting = 0; extras = extras }
+
+-- Registers and variables at an end: all 0, but the extras.
+abbrev pub ZeroAtEnd : ℕ → Regs → List ℤ → Type 0
+ZeroAtEnd extras r vs = (r ≡ zeroRegs extras) × (vs ≡ replicate maxVariables (pos 0))
 
 -- The words after the run from function f hold the frames left; a stopped run's state is given, and at an end registers and variables are 0.
 abbrev pub RunWords : List ℕ → FunctionNumber → List ℤ → ℕ → ℕ → Answer → List ℤ → List ℤ → Type 0

@@ -2,8 +2,7 @@
 use Prim.Native.Nat.{ℕ, _+_, _*_}
 use mathlib.Core.Path.{_≡_}
 use mathlib.Core.List.{List}
-use lib.IntN.{ℤ, pos}
-use lib.ListN.{replicate}
+use lib.IntN.{ℤ}
 use Rattle.semantics.specs.Run.{Stop}
 use Rattle.semantics.specs.Bench.{State, step}
 use Rattle.semantics.specs.Extras.{extra}
@@ -11,11 +10,11 @@ use Rattle.memory.specs.Frame.{frameSize}
 use Rattle.runs.specs.Stopped.{stoppedAs}
 use Rattle.runs.specs.Words.{GivesState}
 use Rattle.runs.specs.Machine.{Held, held, Machine, RunStops}
-use Rattle.procedure_layout.specs.Layout.{maxVariables}
 use Rattle.procedure_file.specs.Check.{programOf}
 use Rattle.bench_frames.specs.declared.registers.Regs.{Regs}
 use Rattle.bench_frames.specs.Machine.{stateOf, Standing}
 use Rattle.bench.specs.declared.machine.Ran.{Ran}
+use Rattle.bench.specs.Published.{ZeroAtEnd}
 
 -- What the machine holds stands for a state from which it can go on.
 abbrev pub StandsFor : List ℕ → ℕ → Held Regs → State → Type 0
@@ -34,14 +33,6 @@ machine s limit =
       bound = frameSize * limit;
       Beside = λ m. Unit {0};
     }
-
--- Registers that stand for no state: all 0, but the extras.
-abbrev pub zeroRegs : ℕ → Regs
-zeroRegs extras = record { function = 0; handler = 0; at = 0; waiting = 0; extras = extras }
-
--- Registers and variables at an end: all 0, but the extras.
-abbrev pub ZeroAtEnd : ℕ → Regs → List ℤ → Type 0
-ZeroAtEnd extras r vs = (r ≡ zeroRegs extras) × (vs ≡ replicate maxVariables (pos 0))
 
 -- Where the machine stopped: at an end all is 0; else what it holds stands for the current state.
 abbrev pub StoppedAt : List ℕ → ℕ → Held Regs → Stop State → Type 0

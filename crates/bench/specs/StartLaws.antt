@@ -31,8 +31,8 @@ use Rattle.bench_frames.specs.StateLaws.{length-frames, frames-same}
 use Rattle.bench.specs.declared.machine.Ran.{Ran}
 use Rattle.bench.specs.declared.machine.Answer.{Answer}
 use Rattle.runs.specs.Machine.{held, StoppedFrom}
-use Rattle.bench.specs.RunResult.{StandsFor, machine, ZeroAtEnd, StoppedAt, RunResult}
-use Rattle.bench.specs.Published.{runOf, framesIn, StateGiven, CallFits, RunAnswered}
+use Rattle.bench.specs.RunResult.{StandsFor, machine, StoppedAt, RunResult}
+use Rattle.bench.specs.Published.{ZeroAtEnd, runOf, framesIn, StateGiven, CallFits, RunAnswered}
 
 drop-replicate : {A : Type 0} (n m : ℕ) (x : A) → drop n (replicate m x) ≡ replicate (m - n) x
 drop-replicate zero m x = let q : m - 0 ≡ m = omega arith in ap (λ (k : ℕ). replicate k x) (sym q)

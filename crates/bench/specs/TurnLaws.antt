@@ -24,8 +24,10 @@ use Rattle.procedure_file.specs.FileInvariant.{FileInvariant}
 use Rattle.bench_frames.specs.declared.registers.Regs.{Regs}
 use Rattle.bench_frames.specs.declared.registers.Step.{Step}
 use Rattle.bench_frames.specs.declared.registers.Step.the-variants.{Next, Ended, Deep}
-use Rattle.bench_frames.specs.Machine.{functionAt, stateOf, Standing, StepResult}
-use Rattle.bench.specs.RunResult.{StandsFor, machine, zeroRegs, RunResult}
+use Rattle.bench_frames.specs.Machine.{functionAt, stateOf, Standing}
+use Rattle.bench_frames.specs.Steps.{StepResult}
+use Rattle.bench.specs.RunResult.{StandsFor, machine, RunResult}
+use Rattle.bench.specs.Published.{zeroRegs}
 
 -- No function has more than 24 locals; one that is not there has none.
 locals-bound : {s : List ℕ} → FileInvariant s → (g : ℕ) → functionAt s g .locals ≤ 24

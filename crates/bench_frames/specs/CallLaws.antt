@@ -34,7 +34,8 @@ use Rattle.bench_frames.specs.declared.registers.Regs.{Regs}
 use Rattle.bench_frames.specs.declared.registers.Step.the-variants.{Next, Deep}
 use Rattle.procedure_file.specs.Places.{startOf}
 use Rattle.procedure_file.specs.FileInvariant.{FileInvariant, OperationsAt}
-use Rattle.bench_frames.specs.Machine.{functionAt, varsOf, frameOf, framesOf, stateOf, FrameStands, Standing, ArgumentsInBounds}
+use Rattle.bench_frames.specs.Machine.{functionAt, varsOf, frameOf, framesOf, stateOf, FrameStands, Standing}
+use Rattle.bench_frames.specs.Steps.{ArgumentsInBounds}
 use Rattle.bench_frames.specs.StateLaws.{Gives, length-frames, frames-same, front, frameWith, vars-bound, before, stepped, extra-is, placed, small, in-range, on, moved}
 
 map-same : {A B : Type 0} (f g : A → B) (Q : A → Type 0) (xs : List A) → All Q xs → ((x : A) → Q x → f x ≡ g x) → map f xs ≡ map g xs

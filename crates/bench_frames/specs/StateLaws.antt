@@ -25,7 +25,8 @@ use Rattle.bench_frames.specs.declared.registers.Regs.{Regs}
 use Rattle.bench_frames.specs.declared.registers.Step.{Step}
 use Rattle.bench_frames.specs.declared.registers.Step.the-variants.{Next}
 use Rattle.procedure_file.specs.FileInvariant.{FileInvariant, OperationsAt}
-use Rattle.bench_frames.specs.Machine.{functionAt, varsOf, frameOf, framesOf, stateOf, FrameStands, Standing, StepResult}
+use Rattle.bench_frames.specs.Machine.{functionAt, varsOf, frameOf, framesOf, stateOf, FrameStands, Standing}
+use Rattle.bench_frames.specs.Steps.{StepResult}
 use Rattle.bench_frames.specs.OperationsLaws.{GoesOn, goes-on, rest-is}
 
 pub length-frames : (s : List ℕ) (words : List ℤ) (d : ℕ) → length (framesOf s words d) ≡ d

@@ -23,7 +23,8 @@ ghost use Rattle.procedure_layout.specs.Layout.{maxVariables, argumentsAt};
 ghost use Rattle.procedure_operations.specs.Operation.{operationAt};
 ghost use Rattle.procedure_file.specs.Check.{programOf};
 ghost use Rattle.procedure_file.specs.Loaded.{Tabled, Loaded};
-ghost use Rattle.bench_frames.specs.Machine.{varsOf, Standing, StepResult, ArgumentsInBounds};
+ghost use Rattle.bench_frames.specs.Machine.{varsOf, Standing};
+ghost use Rattle.bench_frames.specs.Steps.{StepResult, ArgumentsInBounds};
 
 // How many variables function f has.
 fn variables(file: &[u8], starts: &[u16; 2048], f: usize) -> usize

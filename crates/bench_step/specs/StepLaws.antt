@@ -27,7 +27,8 @@ use Rattle.bench_frames.specs.declared.registers.Regs.{Regs}
 use Rattle.bench_frames.specs.declared.registers.Step.{Step}
 use Rattle.bench_frames.specs.declared.registers.Step.the-variants.{Next}
 use Rattle.procedure_file.specs.FileInvariant.{FileInvariant, OperationsAt}
-use Rattle.bench_frames.specs.Machine.{functionAt, varsOf, startRegs, framesOf, stateOf, Standing, StepResult}
+use Rattle.bench_frames.specs.Machine.{functionAt, varsOf, startRegs, framesOf, stateOf, Standing}
+use Rattle.bench_frames.specs.Steps.{StepResult}
 use Rattle.bench_frames.specs.StateLaws.{Gives, before, stepped, extra-is, placed, there, on, moved}
 use Rattle.bench_unwind.specs.Raises.{Raises}
 use Rattle.bench_step.specs.Subtracts.{behind, Subtracts}

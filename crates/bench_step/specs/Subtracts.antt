@@ -6,7 +6,7 @@ use mathlib.Core.List.{List}
 use lib.IntN.{ℤ, pos}
 use Rattle.bench_frames.specs.declared.registers.Regs.{Regs}
 use Rattle.bench_frames.specs.declared.registers.Step.the-variants.{Next}
-use Rattle.bench_frames.specs.Machine.{StepResult}
+use Rattle.bench_frames.specs.Steps.{StepResult}
 use Rattle.bench_unwind.specs.Raises.{Raises}
 
 -- The registers that go on behind an operation.
