@@ -1,6 +1,6 @@
 -- The call: refusals in their order, and the run from function f.
 use Prim.Native.Nat.{ℕ, _<_}
-use mathlib.Core.Path.{_≡_, refl, sym, ap, ap₂, _∙_, subst}
+use mathlib.Core.Path.{_≡_, refl, sym, ap, _∙_, subst}
 use mathlib.Core.List.{List}
 use lib.IntN.{ℤ}
 use lib.ListN.{length}
@@ -8,10 +8,10 @@ use Rattle.semantics.specs.Program.{FunctionNumber, functionOf}
 use Rattle.parsing.specs.declared.Refusal.{Refusal}
 use Rattle.parsing.specs.declared.Checked.{Checked}
 use Rattle.parsing.specs.declared.Checked.the-variants.{Accepted, Refused}
-use Rattle.parsing.specs.Parser.{Verdict, refused, verdictOf, orElse}
+use Rattle.parsing.specs.Parser.{Verdict, refused, verdictOf}
 use Rattle.memory.specs.Frame.{frameSize}
 use Rattle.memory.specs.Call.{argumentsVerdict, callVerdict}
-use Rattle.memory.specs.CallLaws.{fitting-arguments, fitting-call}
+use Rattle.memory.specs.CallLaws.{fitting-arguments, fitting-call, refused-by-check, judged-so}
 use Rattle.runs.specs.CallLaws.{Promised, promised-refused, promised-ran}
 use Rattle.procedure_file.specs.Check.{checkOf, programOf}
 use Rattle.procedure_file.specs.Loaded.{Loaded}
@@ -31,22 +31,20 @@ module _ (s : List ℕ) (f : FunctionNumber) (args : List ℤ) (depth budget : �
   refused-so {a} {r} e q =
       promised-refused (λ b. verdictOf (b .verdict)) summaryOf refusedAnswer (runSummary s f args depth budget) refl (RunWords s f args depth budget a words words) a words r refl e q
 
-  by-check : {v : Verdict} → checkOf s ≡ v → verdict ≡ orElse v (callVerdict f (length (programOf s)) (argumentsVerdict (length args) (functionOf (programOf s) f .params)) frameSize depth (length words))
-  unfolding benchVerdict
-  by-check e = ap (λ (v : Verdict). orElse v (callVerdict f (length (programOf s)) (argumentsVerdict (length args) (functionOf (programOf s) f .params)) frameSize depth (length words))) e
-
   -- The file's own checks.
   pub file-refused : {a : Answer} {u : Checked} {r : Refusal} → verdictOf u ≡ checkOf s → u ≡ Refused r → a ≡ refusedAnswer r → Promises a words
-  file-refused e q k = refused-so (by-check (sym e ∙ ap verdictOf q)) k
+  unfolding benchVerdict
+  file-refused e q k =
+      refused-so (refused-by-check (checkOf s) f (length (programOf s)) (argumentsVerdict (length args) (functionOf (programOf s) f .params)) frameSize depth (length words) e q) k
 
   -- A loaded file: what the call itself is refused for, by the number of functions and that of the arguments that are wanted.
   module _ {starts : List ℕ} (L : Loaded s starts) {functions wanted : ℕ} (en : functions ≡ length (programOf s)) (ew : wanted ≡ functionOf (programOf s) f .params)
       {v : Verdict} (ev : v ≡ argumentsVerdict (length args) wanted) {u : Checked} (eu : verdictOf u ≡ callVerdict f functions v frameSize depth (length words)) where
     verdict-is : {c : Checked} → u ≡ c → verdict ≡ verdictOf c
+    unfolding benchVerdict
     verdict-is q =
-        by-check (L .isAccepted)
-        ∙ (ap₂ (λ (n k : ℕ). callVerdict f n (argumentsVerdict (length args) k) frameSize depth (length words)) (sym en) (sym ew)
-        ∙ (ap (λ (x : Verdict). callVerdict f functions x frameSize depth (length words)) (sym ev) ∙ (sym eu ∙ ap verdictOf q)))
+        judged-so (checkOf s) f (length (programOf s)) (argumentsVerdict (length args) (functionOf (programOf s) f .params)) frameSize depth (length words)
+        (L .isAccepted) en (ev ∙ ap (argumentsVerdict (length args)) ew) eu q
 
     pub call-refused : {a : Answer} {r : Refusal} → u ≡ Refused r → a ≡ refusedAnswer r → Promises a words
     call-refused q k = refused-so (verdict-is q) k
