@@ -1,4 +1,7 @@
 // The side-by-side call: a procedure is translated, and run on both machines.
+
+#![tactic(auto)]
+
 ghost use Rattle.std.specs.Prelude.{◌≡◌, length};
 ghost use Rattle.parsing.specs.Parser.{verdict_of};
 ghost use Rattle.runs.specs.Tells.{RefusedBy};

@@ -1,4 +1,7 @@
 // Signed 32-bit values: the difference, whether it is one, and the comparison of the values themselves.
+
+#![tactic(auto)]
+
 ghost use Rattle.std.specs.Prelude.{◌≡◌, ◌<◌, ◌-ℤ◌};
 ghost use Rattle.std.specs.Int.Signed.{mag};
 ghost use Rattle.semantics.specs.Value.{wrapped, minus, in_range, at_most};

@@ -1,2 +1,5 @@
 // The bench machine: runs.
+
+#![tactic(auto)]
+
 pub mod machine;

@@ -3,6 +3,9 @@
 // A record is a head of 4 bytes and the input of `both`: argument count, arguments, depth, budget, file. The head is a number of words to
 // lend less than or beyond 48 a frame (one byte, 128 for none), the length of the input (2 bytes, the low byte first) and the start function
 // (1 byte).
+
+#![tactic(auto)]
+
 use bench::machine::{Answer, run};
 use case_fields::record::{argument_bytes, arguments, byte_at};
 use case_fields::words::{UNTOUCHED, lent};

@@ -1,2 +1,5 @@
 // One step of the bench machine.
+
+#![tactic(auto)]
+
 pub mod step;

@@ -1,2 +1,5 @@
 // Return and raise: what leaves frames.
+
+#![tactic(auto)]
+
 pub mod unwind;

@@ -1,5 +1,8 @@
 // Program `both` (document 01): reads argument count, arguments, depth, budget and a procedure file, runs the procedure on the bench and
 // its translation on the controller, and writes what they come to.
+
+#![tactic(auto)]
+
 use libc::{STDERR_FILENO, STDIN_FILENO, STDOUT_FILENO};
 use report::report;
 

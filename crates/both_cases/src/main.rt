@@ -1,5 +1,8 @@
 // Writes what program `both` prints (document 01) for inputs that stand as records on standard input.
 // A record is the length of an input (2 bytes, the low byte first) and that input; one of more than 4,096 bytes ends the run.
+
+#![tactic(auto)]
+
 use case_io::input::{read_part, read_whole};
 use case_io::print::say;
 use casts::pair;

@@ -1,4 +1,7 @@
 // Bytes written into lent output, one behind the other: each function gives the offset past what it wrote.
+
+#![tactic(auto)]
+
 ghost use Rattle.std.specs.Prelude.{[], ◌∷◌, ◌<◌};
 ghost use Rattle.parsing.specs.Bytes.{pair_bytes};
 ghost use Rattle.byte_writers.specs.Writes.{Room, Wrote};

@@ -1,4 +1,7 @@
 // Bytes, and fields of several bytes with the low byte first, as numbers: what files, tables and records are read with.
+
+#![tactic(auto)]
+
 ghost use Rattle.std.specs.Prelude.{◌≡◌, ◌+◌, ◌*◌, ◌<◌};
 
 // A byte as a number.

@@ -1,4 +1,7 @@
 // The charge of a run, in cents, asked of the answer of either machine (document 02, Slip 1).
+
+#![tactic(auto)]
+
 ghost use Rattle.std.specs.Prelude.{◌≡◌};
 ghost use Rattle.parsing.specs.Refusals.{no_charge};
 ghost use Rattle.parsing.specs.Parser.{verdict_of};

@@ -1,6 +1,9 @@
 // Asks for the charge of answers that stand as records on standard input, and writes a line for each.
 // A record is whose answer it is (0 the bench's, 1 the controller's), the verdict (0 accepted, 1 refused), how the run stopped (0 value,
 // 1 uncaught, 2 spent, 3 deep), steps (8 bytes) and extras (8 bytes, of which a controller's answer says nothing), the low byte first.
+
+#![tactic(auto)]
+
 use case_fields::record::byte_at;
 use case_io::input::read_whole;
 use case_io::print::{numbered, refusal, say};

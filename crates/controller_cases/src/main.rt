@@ -3,6 +3,9 @@
 // A record of the input is a head of 17 bytes, the arguments (4 bytes each) and a translated file. The head is a number of words to lend
 // less than or beyond 48 a record (one byte, 128 for none), argument count (1 byte), depth (2), budget (8), length of the file (3) and start
 // function (2), the low byte first.
+
+#![tactic(auto)]
+
 use case_fields::record::{argument_bytes, arguments};
 use case_fields::words::{UNTOUCHED, lent};
 use case_io::input::{read_part, read_whole};

@@ -1,4 +1,7 @@
 // Words and numbers in decimal, written into lent bytes.
+
+#![tactic(auto)]
+
 ghost use Rattle.std.specs.Prelude.{◌+◌, ◌≤◌, ◌<◌, [], ◌∷◌, ◌≡◌, nat_abs, length};
 ghost use Rattle.decimal.specs.Decimal.{digits, decimal, signed, numbered};
 ghost use Rattle.decimal.specs.WroteText.{WroteText};

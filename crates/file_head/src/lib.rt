@@ -1,4 +1,7 @@
 // The head of a file of either kind: its mark, its version and its size.
+
+#![tactic(auto)]
+
 ghost use Rattle.std.specs.Prelude.{◌≡◌};
 ghost use Rattle.parsing.specs.Parser.{past_of};
 ghost use Rattle.parsing.specs.Fields.{marked, version, within, head};

@@ -1,4 +1,7 @@
 // The merge of two procedure files into one.
+
+#![tactic(auto)]
+
 mod functions;
 
 ghost use Rattle.std.specs.Prelude.{◌≡◌, length};

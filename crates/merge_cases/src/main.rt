@@ -1,6 +1,9 @@
 // Runs the merge over pairs of procedure files from standard input, and writes its answer and the whole output for each, in hexadecimal.
 // A record is the lengths of the first file, the second and the output (3 bytes each, the low byte first), and the two files. The output of
 // a record is the front of one buffer, which keeps what earlier records left there.
+
+#![tactic(auto)]
+
 use case_fields::record::room;
 use case_io::input::{read_part, read_whole};
 use case_io::print::{bytes, numbered, refusal, say};

@@ -1,4 +1,7 @@
 // What files of both kinds are read with: refusals, the fields that they share, and the end of the file.
+
+#![tactic(auto)]
+
 pub mod refusals;
 
 ghost use Rattle.std.specs.Prelude.{◌≡◌};

@@ -1,4 +1,7 @@
 // The price list: what controller steps cost, in cents (document 02, Slip 1).
+
+#![tactic(auto)]
+
 ghost use Rattle.std.specs.Prelude.{min, ◌≡◌};
 ghost use Rattle.prices.specs.Cents.{started_above, cents};
 

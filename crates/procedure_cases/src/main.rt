@@ -1,5 +1,8 @@
 // Runs the checker and the lookup of blocks over files from standard input, and writes a line for each.
 // A record is a kind (0 check, 1 lookup), a function number, a label, the file's length (3 bytes, the low byte first), and the file.
+
+#![tactic(auto)]
+
 use case_io::input::{read_part, read_whole};
 use case_io::print::{bytes, say, verdict};
 use casts::triple;

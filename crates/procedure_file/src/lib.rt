@@ -1,4 +1,7 @@
 // Procedure files (`SPF`): the checker, and the table by which machines and translator read an accepted file.
+
+#![tactic(auto)]
+
 pub mod check;
 mod fill;
 pub mod table;

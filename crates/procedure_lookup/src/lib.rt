@@ -1,4 +1,7 @@
 // Finding a block in a procedure file.
+
+#![tactic(auto)]
+
 ghost use Rattle.std.specs.Prelude.{◌≡◌};
 ghost use Rattle.parsing.specs.Parser.{verdict_of};
 ghost use Rattle.procedure_file.specs.Check.{program_of};

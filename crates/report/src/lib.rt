@@ -1,4 +1,7 @@
 // What program `both` prints for an input.
+
+#![tactic(auto)]
+
 ghost use Rattle.std.specs.Prelude.{◌≡◌, ◌+◌, ◌*◌, ◌≤◌, ◌<◌, length, take};
 ghost use Rattle.text.specs.Text.{refused_text};
 ghost use Rattle.decimal.specs.WroteText.{WroteText};

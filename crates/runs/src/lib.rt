@@ -1,4 +1,7 @@
 // How a run of either machine ends and stops.
+
+#![tactic(auto)]
+
 ghost use Rattle.std.specs.Prelude.{◌≡◌};
 ghost use Rattle.semantics.specs.Run.{one_more_if_deep};
 ghost use Rattle.runs.specs.Stopped.{stopped_as, in_use};

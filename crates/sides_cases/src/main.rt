@@ -3,6 +3,9 @@
 // A record is a head of 17 bytes, the arguments (4 bytes each) and a procedure file. The head is start function (2 bytes), argument count
 // (1), depth (2), budget (4), words to lend for frames (1), bytes of room (3), words to lend for records (1) and length of the file (3), the
 // low byte first. A number of words to lend is less than or beyond 48 a frame of the depth, 128 for none.
+
+#![tactic(auto)]
+
 use agreement::{Sides, side_by_side};
 use case_fields::record::{argument_bytes, arguments, room};
 use case_fields::words::{UNTOUCHED, all_are, lent};

@@ -1,5 +1,8 @@
 // Runs the checker of translated files over files from standard input, and writes a line for each.
 // A record is the file's length (3 bytes, the low byte first) and the file.
+
+#![tactic(auto)]
+
 use case_io::input::{read_part, read_whole};
 use case_io::print::{say, verdict};
 use casts::triple;

@@ -1,2 +1,5 @@
 // The tags of translated files (`SPC`): the node at an offset.
+
+#![tactic(auto)]
+
 pub mod tag;

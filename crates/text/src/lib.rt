@@ -1,4 +1,7 @@
 // The lines that program `both` prints, written into lent bytes.
+
+#![tactic(auto)]
+
 ghost use Rattle.std.specs.Prelude.{◌+◌, ◌≤◌, length};
 ghost use Rattle.decimal.specs.WroteText.{WroteText};
 ghost use Rattle.runs.specs.Stopped.{end_as, stopped_as};

@@ -1,4 +1,7 @@
 // The translator: a procedure file becomes a translated file.
+
+#![tactic(auto)]
+
 mod blocks;
 pub mod parts;
 

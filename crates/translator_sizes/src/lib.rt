@@ -1,4 +1,7 @@
 // The size of what operations, blocks and functions of a procedure file become in the translation, and how many slots it uses.
+
+#![tactic(auto)]
+
 ghost use Rattle.std.specs.Prelude.{◌≡◌, ◌+◌, ◌<◌, ◌≤◌, length, eqb, cond};
 ghost use Rattle.procedure_layout.specs.Layout.{max_variables};
 ghost use Rattle.parsing.specs.Fields.{version_of};
