@@ -242,7 +242,7 @@ pub fn block_named(
             }
             Checked::Accepted => {}
         }
-        match layout::after_of(o) {
+        match layout::after_of(operation::operation_at(file, at)) {
             After::Onward(next) => {
                 at = next;
             }
