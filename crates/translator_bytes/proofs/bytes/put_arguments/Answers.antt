@@ -1,4 +1,4 @@
-use Rattle.translator_bytes.specs.JumpLaws.{passing_small, passing_more, passing_done}
+use Rattle.translator_bytes.proofs.JumpLaws.{passing_small, passing_more, passing_done}
 use Rattle.translator_bytes.proofs.bytes.put_arguments.Goals as goal
 
 pub slot_of-slot-requires : goal.slot_of-slot-requires

@@ -1,4 +1,4 @@
-use Rattle.translator_bytes.specs.JumpLaws.{Passing}
+use Rattle.translator_bytes.proofs.JumpLaws.{Passing}
 use Prim.Native.Nat.{◌-◌}
 use Rattle.translator_bytes.proofs.bytes.put_arguments.Given as goal
 

@@ -1,7 +1,7 @@
 use mathlib.Core.Path.{◌≡◌}
-use Rattle.translator_bytes.specs.LengthLaws.{length_slots}
+use Rattle.translator_bytes.proofs.LengthLaws.{length_slots}
 use Rattle.byte_writers.specs.WriteLaws.{room_as, rest_none, rest_more, rest_done}
-use Rattle.translator_bytes.specs.ListLaws.{slots_more}
+use Rattle.translator_bytes.proofs.ListLaws.{slots_more}
 use Rattle.semantics.specs.Translation.{slots_from}
 use mathlib.Core.List.{[], ◌∷◌}
 use mathlib.Core.Path.{ap}

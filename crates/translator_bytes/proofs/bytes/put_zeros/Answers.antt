@@ -1,7 +1,7 @@
 use mathlib.Core.Path.{◌≡◌}
-use Rattle.translator_bytes.specs.LengthLaws.{length_zeros}
+use Rattle.translator_bytes.proofs.LengthLaws.{length_zeros}
 use Rattle.byte_writers.specs.WriteLaws.{room_as, rest_none, rest_more, rest_done}
-use Rattle.translator_bytes.specs.ListLaws.{zeros_more}
+use Rattle.translator_bytes.proofs.ListLaws.{zeros_more}
 use Rattle.translator_bytes.specs.Bytes.{zeros}
 use mathlib.Core.List.{[], ◌∷◌, ◌++◌}
 use mathlib.Core.Path.{ap}

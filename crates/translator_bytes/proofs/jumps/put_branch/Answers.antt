@@ -1,6 +1,6 @@
-use Rattle.translator_bytes.specs.JumpLaws.{branch_wrote}
+use Rattle.translator_bytes.proofs.JumpLaws.{branch_wrote}
 use Rattle.byte_writers.specs.WriteLaws.{room_behind, room_behind_two}
-use Rattle.translator_bytes.specs.LengthLaws.{label_size}
+use Rattle.translator_bytes.proofs.LengthLaws.{label_size}
 use Prim.Native.Nat.{◌+◌}
 use native.Mathlib.Omega.{arith}
 use Rattle.translator_bytes.proofs.jumps.put_branch.Goals as goal

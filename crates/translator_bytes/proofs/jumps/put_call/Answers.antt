@@ -1,4 +1,4 @@
-use Rattle.translator_bytes.specs.JumpLaws.{plain_as, guarded_as, plain_sum, guarded_sum, wrote_as}
+use Rattle.translator_bytes.proofs.JumpLaws.{plain_as, guarded_as, plain_sum, guarded_sum, wrote_as}
 use Rattle.byte_writers.specs.WriteLaws.{room_as}
 use mathlib.Core.Path.{refl}
 use Rattle.procedure_operations.specs.Operation.{arguments_at}

@@ -1,4 +1,4 @@
-use Rattle.translator_bytes.specs.JumpLaws.{constant_wrote}
+use Rattle.translator_bytes.proofs.JumpLaws.{constant_wrote}
 use native.Mathlib.Omega.{arith}
 use Rattle.translator_bytes.proofs.jumps.put_constant.Goals as goal
 

@@ -1,4 +1,4 @@
-use Rattle.translator_bytes.specs.JumpLaws.{difference_wrote}
+use Rattle.translator_bytes.proofs.JumpLaws.{difference_wrote}
 use Rattle.translator_bytes.proofs.jumps.put_difference.Goals as goal
 
 pub returns : goal.returns

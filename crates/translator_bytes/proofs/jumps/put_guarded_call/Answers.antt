@@ -1,5 +1,5 @@
-use Rattle.translator_bytes.specs.JumpLaws.{guarded_pair_room, guarded_jump_room, guarded_length_room, guarded_label_room, guarded_wrote}
-use Rattle.translator_bytes.specs.LengthLaws.{call_size_lem, head_size}
+use Rattle.translator_bytes.proofs.JumpLaws.{guarded_pair_room, guarded_jump_room, guarded_length_room, guarded_label_room, guarded_wrote}
+use Rattle.translator_bytes.proofs.LengthLaws.{call_size_lem, head_size}
 use mathlib.Core.Path.{refl}
 use Rattle.procedure_operations.specs.Operation.{arguments_at}
 use Rattle.translator_bytes.proofs.jumps.put_guarded_call.Goals as goal

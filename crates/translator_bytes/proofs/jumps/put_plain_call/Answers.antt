@@ -1,4 +1,4 @@
-use Rattle.translator_bytes.specs.JumpLaws.{plain_wrote}
+use Rattle.translator_bytes.proofs.JumpLaws.{plain_wrote}
 use Rattle.procedure_operations.specs.Operation.{arguments_at}
 use Rattle.translator_bytes.proofs.jumps.put_plain_call.Goals as goal
 

@@ -1,5 +1,5 @@
 use Rattle.byte_writers.specs.WriteLaws.{room_less, room_behind, wrote_after}
-use Rattle.translator_bytes.specs.LengthLaws.{any_size}
+use Rattle.translator_bytes.proofs.LengthLaws.{any_size}
 use Rattle.translator_bytes.specs.Bytes.{if_any, size_if_any, raise_end, raise_bytes, raise_size}
 use mathlib.Core.List.{[], ◌∷◌, ◌++◌}
 use mathlib.Core.Path.{refl}

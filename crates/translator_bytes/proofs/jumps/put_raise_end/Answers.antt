@@ -1,4 +1,4 @@
-use Rattle.translator_bytes.specs.JumpLaws.{uncaught_as, caught_as, uncaught_end, caught_end, wrote_as}
+use Rattle.translator_bytes.proofs.JumpLaws.{uncaught_as, caught_as, uncaught_end, caught_end, wrote_as}
 use Rattle.byte_writers.specs.WriteLaws.{room_less, room_as, room_behind, wrote_after}
 use Rattle.translator_bytes.specs.Bytes.{if_any, size_if_any}
 use mathlib.Core.List.{[], ◌∷◌}

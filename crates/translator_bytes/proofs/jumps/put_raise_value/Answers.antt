@@ -1,6 +1,6 @@
-use Rattle.translator_bytes.specs.JumpLaws.{value_uncaught_as, value_caught_as, value_uncaught_sum, value_caught_sum, wrote_as}
+use Rattle.translator_bytes.proofs.JumpLaws.{value_uncaught_as, value_caught_as, value_uncaught_sum, value_caught_sum, wrote_as}
 use Rattle.byte_writers.specs.WriteLaws.{room_less, room_as, room_behind, wrote_after}
-use Rattle.translator_bytes.specs.LengthLaws.{any_size}
+use Rattle.translator_bytes.proofs.LengthLaws.{any_size}
 use Rattle.translator_bytes.specs.Bytes.{if_any, size_if_any, label_jump}
 use Prim.Native.Nat.{ℕ, ◌+◌}
 use mathlib.Core.List.{List, [], ◌∷◌}

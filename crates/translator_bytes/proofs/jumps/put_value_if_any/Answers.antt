@@ -1,4 +1,4 @@
-use Rattle.translator_bytes.specs.JumpLaws.{none_as, any_value_as, any_sum, wrote_as}
+use Rattle.translator_bytes.proofs.JumpLaws.{none_as, any_value_as, any_sum, wrote_as}
 use Rattle.byte_writers.specs.WriteLaws.{room_as, wrote_none}
 use Prim.Native.Nat.{◌+◌}
 use mathlib.Core.List.{[], ◌∷◌}

@@ -1,4 +1,4 @@
-use Rattle.translator_bytes.specs.JumpLaws.{none_as, any_as, any_sum, wrote_as}
+use Rattle.translator_bytes.proofs.JumpLaws.{none_as, any_as, any_sum, wrote_as}
 use Rattle.byte_writers.specs.WriteLaws.{room_as, wrote_none}
 use mathlib.Core.List.{[], ◌∷◌, ◌++◌}
 use Rattle.translator_bytes.proofs.jumps.put_zero_if_any.Goals as goal

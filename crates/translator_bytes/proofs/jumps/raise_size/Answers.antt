@@ -1,4 +1,4 @@
-use Rattle.translator_bytes.specs.JumpLaws.{uncaught_end, caught_end, raise_sum}
+use Rattle.translator_bytes.proofs.JumpLaws.{uncaught_end, caught_end, raise_sum}
 use native.Mathlib.Omega.{arith}
 use Rattle.translator_bytes.proofs.jumps.raise_size.Goals as goal
 

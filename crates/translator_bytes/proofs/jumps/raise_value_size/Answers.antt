@@ -1,4 +1,4 @@
-use Rattle.translator_bytes.specs.JumpLaws.{value_uncaught_sum, value_caught_sum}
+use Rattle.translator_bytes.proofs.JumpLaws.{value_uncaught_sum, value_caught_sum}
 use native.Mathlib.Omega.{arith}
 use Rattle.translator_bytes.proofs.jumps.raise_value_size.Goals as goal
 

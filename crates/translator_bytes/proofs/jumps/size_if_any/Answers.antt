@@ -1,4 +1,4 @@
-use Rattle.translator_bytes.specs.JumpLaws.{none_sum, any_sum}
+use Rattle.translator_bytes.proofs.JumpLaws.{none_sum, any_sum}
 use native.Mathlib.Omega.{arith}
 use Rattle.translator_bytes.proofs.jumps.size_if_any.Goals as goal
 
