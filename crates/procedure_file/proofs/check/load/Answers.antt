@@ -1,4 +1,4 @@
-use Rattle.procedure_file.specs.CheckLaws.{load_stopped, layout_whole}
+use Rattle.procedure_file.proofs.CheckLaws.{load_stopped, layout_whole}
 use native.Mathlib.Omega.{arith}
 use mathlib.Core.Path.{sym, ◌∙◌}
 use Rattle.procedure_file.proofs.check.load.Goals as goal
