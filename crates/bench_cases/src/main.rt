@@ -14,48 +14,63 @@ use case_io::print::{numbered, say};
 use case_io::words::{print_frames, print_refused, print_rest, print_stop};
 use casts::{byte_number, pair, word};
 use parsing::{Checked, version_of};
+use std::io;
+use std::io::{BufWriter, Read, Write};
 
 // The line of a record, by the version of its file: of each waiting frame its four numbers.
-fn print_answer(a: Answer, version: u8, words: &[i32], depth: usize) {
+fn print_answer<W: Write>(
+    writer: &mut W,
+    a: Answer,
+    version: u8,
+    words: &[i32],
+    depth: usize,
+) -> io::Result<()> {
     let verdict = a.verdict;
     match verdict {
         Checked::Refused(r) => {
-            print_refused(r, words);
+            print_refused(writer, r, words)?;
         }
         Checked::Accepted => {
             let regs = a.regs;
             let stopped = a.stopped;
-            let waiting = print_stop(stopped, version, regs.waiting);
-            numbered(b" steps", a.steps);
-            numbered(b" extras", a.extras);
-            say(b" frames");
-            print_frames(words, waiting, 4);
-            print_rest(words, waiting, depth);
+            let waiting = print_stop(writer, stopped, version, regs.waiting)?;
+            numbered(writer, b" steps", a.steps)?;
+            numbered(writer, b" extras", a.extras)?;
+            say(writer, b" frames")?;
+            print_frames(writer, words, waiting, 4)?;
+            print_rest(writer, words, waiting, depth)?;
         }
     }
-    say(b"\n");
+    say(writer, b"\n")
 }
 
-fn run_on(given: &[u8], file: &[u8], start: usize, depth: usize, budget: u32, delta: u8) {
+fn run_on<W: Write>(
+    writer: &mut W,
+    given: &[u8],
+    file: &[u8],
+    start: usize,
+    depth: usize,
+    budget: u32,
+    delta: u8,
+) -> io::Result<()> {
     let mut args = [0i32; 256];
     let n = arguments(given, &mut args);
     let mut space = [UNTOUCHED; 13000];
     let words: &mut [i32] = &mut space;
     let many = lent(words, depth, delta);
     let a = run(file, start, &args[..n], depth, budget, &mut words[..many]);
-    print_answer(a, version_of(file), words, depth);
+    print_answer(writer, a, version_of(file), words, depth)
 }
 
 // The input of a record.
-fn run_case(input: &[u8], start: usize, delta: u8) {
+fn run_case<W: Write>(writer: &mut W, input: &[u8], start: usize, delta: u8) -> io::Result<()> {
     if input.len() < 1 {
-        return;
+        return Ok(());
     }
     let at = argument_bytes(byte_at(input, 0)) + 1;
     let past = at + 6;
     if input.len() < past {
-        say(b"no header\n");
-        return;
+        return say(writer, b"no header\n");
     }
     let depth = pair(byte_at(input, at), byte_at(input, at + 1));
     let budget = word(
@@ -64,28 +79,40 @@ fn run_case(input: &[u8], start: usize, delta: u8) {
         byte_at(input, at + 4),
         byte_at(input, at + 5),
     );
-    run_on(&input[1..at], &input[past..], start, depth, budget, delta);
+    run_on(
+        writer,
+        &input[1..at],
+        &input[past..],
+        start,
+        depth,
+        budget,
+        delta,
+    )
 }
 
 // One record; false at the end of the input.
-fn run_record() -> bool {
+fn run_record<R: Read, W: Write>(reader: &mut R, writer: &mut W) -> io::Result<bool> {
     let mut head = [0u8; 4];
-    if !read_whole(&mut head) {
-        return false;
+    if !read_whole(reader, &mut head)? {
+        return Ok(false);
     }
     let size = pair(head[1], head[2]);
-    let mut buffer = io::large_buffer();
-    let got = read_part(&mut buffer, size);
+    let mut buffer = [0u8; 65536];
+    let got = read_part(reader, &mut buffer, size)?;
     if got < size {
-        return false;
+        return Ok(false);
     }
-    run_case(&buffer[..got], byte_number(head[3]), head[0]);
-    true
+    run_case(writer, &buffer[..got], byte_number(head[3]), head[0])?;
+    Ok(true)
 }
 
-fn main() {
-    let mut turns: usize = 100000;
-    while turns > 0 && run_record() {
-        turns -= 1;
+fn main(rt: HostRuntime) -> io::Result<()> {
+    let mut reader = rt.stdin();
+    let mut writer = BufWriter::new(rt.alloc(), rt.stdout())?;
+    for _ in 0..100000 {
+        if !run_record(&mut reader, &mut writer)? {
+            break;
+        }
     }
+    writer.flush()
 }

@@ -7,33 +7,39 @@ use case_io::input::{read_part, read_whole};
 use case_io::print::say;
 use casts::pair;
 use report::report;
+use std::io;
+use std::io::{BufWriter, Read, Write};
 
 // The text of one input.
-fn run_case(input: &[u8]) {
+fn run_case<W: Write>(writer: &mut W, input: &[u8]) -> io::Result<()> {
     let mut out = [0u8; 256];
     let n = report(input, &mut out);
-    say(&out[..n]);
+    say(writer, &out[..n])
 }
 
 // One record; false at the end of standard input.
-fn run_record() -> bool {
+fn run_record<R: Read, W: Write>(reader: &mut R, writer: &mut W) -> io::Result<bool> {
     let mut head = [0u8; 2];
-    if !read_whole(&mut head) {
-        return false;
+    if !read_whole(reader, &mut head)? {
+        return Ok(false);
     }
     let size = pair(head[0], head[1]);
-    let mut buffer = io::buffer();
-    let got = read_part(&mut buffer, size);
+    let mut buffer = [0u8; 4096];
+    let got = read_part(reader, &mut buffer, size)?;
     if got < size {
-        return false;
+        return Ok(false);
     }
-    run_case(&buffer[..got]);
-    true
+    run_case(writer, &buffer[..got])?;
+    Ok(true)
 }
 
-fn main() {
-    let mut turns: usize = 100000;
-    while turns > 0 && run_record() {
-        turns -= 1;
+fn main(rt: HostRuntime) -> io::Result<()> {
+    let mut reader = rt.stdin();
+    let mut writer = BufWriter::new(rt.alloc(), rt.stdout())?;
+    for _ in 0..100000 {
+        if !run_record(&mut reader, &mut writer)? {
+            break;
+        }
     }
+    writer.flush()
 }

@@ -1,4 +1,4 @@
-// What the test programs share: reading a record from standard input, and printing answers.
+// What the test programs share: reading a record, and printing answers.
 
 #![tactic(auto)]
 

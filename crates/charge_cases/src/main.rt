@@ -11,6 +11,8 @@ use casts::{double_word, word};
 use charge::{Charge, bench_charge, controller_charge};
 use parsing::{Checked, Refusal, refusals};
 use runs::{End, Stopped};
+use std::io;
+use std::io::{BufWriter, Read, Write};
 
 // Any refusal of a call.
 fn some_refusal() -> Refusal {
@@ -82,39 +84,43 @@ fn of_controller(verdict: Checked, stopped: Stopped, steps: u64) -> Charge {
     })
 }
 
-fn print_charge(c: Charge) {
+fn print_charge<W: Write>(writer: &mut W, c: Charge) -> io::Result<()> {
     match c {
         Charge::Cents(n) => {
-            numbered(b"cents", n);
+            numbered(writer, b"cents", n)?;
         }
         Charge::Refused(r) => {
-            refusal(r);
+            refusal(writer, r)?;
         }
     }
-    say(b"\n");
+    say(writer, b"\n")
 }
 
 // One record; false at the end of the input.
-fn run_record() -> bool {
+fn run_record<R: Read, W: Write>(reader: &mut R, writer: &mut W) -> io::Result<bool> {
     let mut head = [0u8; 19];
-    if !read_whole(&mut head) {
-        return false;
+    if !read_whole(reader, &mut head)? {
+        return Ok(false);
     }
     let verdict = verdict_of(head[1]);
     let stopped = stopped_of(head[2]);
     let steps = count(&head[3..11]);
     let extras = count(&head[11..19]);
     if head[0] == 0 {
-        print_charge(of_bench(verdict, stopped, steps, extras));
+        print_charge(writer, of_bench(verdict, stopped, steps, extras))?;
     } else {
-        print_charge(of_controller(verdict, stopped, steps));
+        print_charge(writer, of_controller(verdict, stopped, steps))?;
     }
-    true
+    Ok(true)
 }
 
-fn main() {
-    let mut turns: usize = 100000;
-    while turns > 0 && run_record() {
-        turns -= 1;
+fn main(rt: HostRuntime) -> io::Result<()> {
+    let mut reader = rt.stdin();
+    let mut writer = BufWriter::new(rt.alloc(), rt.stdout())?;
+    for _ in 0..100000 {
+        if !run_record(&mut reader, &mut writer)? {
+            break;
+        }
     }
+    writer.flush()
 }

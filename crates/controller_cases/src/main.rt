@@ -14,71 +14,92 @@ use case_io::words::{print_frames, print_refused, print_rest, print_stop};
 use casts::{double_word, pair, triple, word};
 use controller::machine::{Answer, run};
 use parsing::{Checked, version_of};
+use std::io;
+use std::io::{BufWriter, Read, Write};
 
 // The line of a record of the input, by the version of its file: of each record in use its first word, the place of its tag.
-fn print_answer(a: Answer, version: u8, words: &[i32], depth: usize) {
+fn print_answer<W: Write>(
+    writer: &mut W,
+    a: Answer,
+    version: u8,
+    words: &[i32],
+    depth: usize,
+) -> io::Result<()> {
     let verdict = a.verdict;
     match verdict {
         Checked::Refused(r) => {
-            print_refused(r, words);
+            print_refused(writer, r, words)?;
         }
         Checked::Accepted => {
             let regs = a.regs;
             let stopped = a.stopped;
-            let records = print_stop(stopped, version, regs.records);
-            numbered(b" steps", a.steps);
-            say(b" records");
-            print_frames(words, records, 1);
-            print_rest(words, records, depth);
+            let records = print_stop(writer, stopped, version, regs.records)?;
+            numbered(writer, b" steps", a.steps)?;
+            say(writer, b" records")?;
+            print_frames(writer, words, records, 1)?;
+            print_rest(writer, words, records, depth)?;
         }
     }
-    say(b"\n");
+    say(writer, b"\n")
 }
 
-fn run_on(given: &[u8], file: &[u8], start: usize, depth: usize, budget: u64, delta: u8) {
+fn run_on<W: Write>(
+    writer: &mut W,
+    given: &[u8],
+    file: &[u8],
+    start: usize,
+    depth: usize,
+    budget: u64,
+    delta: u8,
+) -> io::Result<()> {
     let mut args = [0i32; 256];
     let n = arguments(given, &mut args);
     let mut space = [UNTOUCHED; 13000];
     let words: &mut [i32] = &mut space;
     let many = lent(words, depth, delta);
     let a = run(file, start, &args[..n], depth, budget, &mut words[..many]);
-    print_answer(a, version_of(file), words, depth);
+    print_answer(writer, a, version_of(file), words, depth)
 }
 
 // One record; false at the end of the input.
-fn run_record() -> bool {
+fn run_record<R: Read, W: Write>(reader: &mut R, writer: &mut W) -> io::Result<bool> {
     let mut head = [0u8; 17];
-    if !read_whole(&mut head) {
-        return false;
+    if !read_whole(reader, &mut head)? {
+        return Ok(false);
     }
     let size = argument_bytes(head[1]);
     let mut given = [0u8; 1020];
-    let got = read_part(&mut given, size);
+    let got = read_part(reader, &mut given, size)?;
     if got < size {
-        return false;
+        return Ok(false);
     }
     let length = triple(head[12], head[13], head[14]);
-    let mut buffer = io::large_buffer();
-    let read = read_part(&mut buffer, length);
+    let mut buffer = [0u8; 65536];
+    let read = read_part(reader, &mut buffer, length)?;
     if read < length {
-        return false;
+        return Ok(false);
     }
     let low = word(head[4], head[5], head[6], head[7]);
     let high = word(head[8], head[9], head[10], head[11]);
     run_on(
+        writer,
         &given[..got],
         &buffer[..read],
         pair(head[15], head[16]),
         pair(head[2], head[3]),
         double_word(low, high),
         head[0],
-    );
-    true
+    )?;
+    Ok(true)
 }
 
-fn main() {
-    let mut turns: usize = 100000;
-    while turns > 0 && run_record() {
-        turns -= 1;
+fn main(rt: HostRuntime) -> io::Result<()> {
+    let mut reader = rt.stdin();
+    let mut writer = BufWriter::new(rt.alloc(), rt.stdout())?;
+    for _ in 0..100000 {
+        if !run_record(&mut reader, &mut writer)? {
+            break;
+        }
     }
+    writer.flush()
 }

@@ -9,53 +9,67 @@ use case_io::input::{read_part, read_whole};
 use case_io::print::{bytes, numbered, refusal, say};
 use casts::triple;
 use merge::Merged;
+use std::io;
+use std::io::{BufWriter, Read, Write};
 
-fn run_case(first: &[u8], second: &[u8], out: &mut [u8]) {
+fn run_case<W: Write>(
+    writer: &mut W,
+    first: &[u8],
+    second: &[u8],
+    out: &mut [u8],
+) -> io::Result<()> {
     match merge::merge(first, second, out) {
         Merged::Written(n) => {
-            numbered(b"written", n as u64);
+            numbered(writer, b"written", n as u64)?;
         }
         Merged::Refused(r) => {
-            refusal(r);
+            refusal(writer, r)?;
         }
     }
-    say(b"\n");
-    bytes(out, true);
-    say(b"\n");
+    say(writer, b"\n")?;
+    bytes(writer, out, true)?;
+    say(writer, b"\n")
 }
 
 // One record; false at the end of the input, or where the output is too short.
-fn run_record(outs: &mut [u8]) -> bool {
+fn run_record<R: Read, W: Write>(
+    reader: &mut R,
+    writer: &mut W,
+    outs: &mut [u8],
+) -> io::Result<bool> {
     let mut head = [0u8; 9];
-    if !read_whole(&mut head) {
-        return false;
+    if !read_whole(reader, &mut head)? {
+        return Ok(false);
     }
     let size = triple(head[0], head[1], head[2]);
-    let mut first = io::large_buffer();
-    let got = read_part(&mut first, size);
+    let mut first = [0u8; 65536];
+    let got = read_part(reader, &mut first, size)?;
     if got < size {
-        return false;
+        return Ok(false);
     }
     let other = triple(head[3], head[4], head[5]);
-    let mut second = io::large_buffer();
-    let read = read_part(&mut second, other);
+    let mut second = [0u8; 65536];
+    let read = read_part(reader, &mut second, other)?;
     if read < other {
-        return false;
+        return Ok(false);
     }
     let wanted = triple(head[6], head[7], head[8]);
     let lent = room(outs, wanted);
     if lent < wanted {
-        return false;
+        return Ok(false);
     }
-    run_case(&first[..got], &second[..read], &mut outs[..lent]);
-    true
+    run_case(writer, &first[..got], &second[..read], &mut outs[..lent])?;
+    Ok(true)
 }
 
-fn main() {
-    let mut space = io::large_buffer();
-    let outs: &mut [u8] = &mut space;
-    let mut turns: usize = 100000;
-    while turns > 0 && run_record(outs) {
-        turns -= 1;
+fn main(rt: HostRuntime) -> io::Result<()> {
+    let mut reader = rt.stdin();
+    let mut writer = BufWriter::new(rt.alloc(), rt.stdout())?;
+    let mut outs = [0u8; 65536];
+    for _ in 0..100000 {
+        if !run_record(&mut reader, &mut writer, &mut outs)? {
+            break;
+        }
     }
+    writer.flush()
 }

@@ -6,36 +6,42 @@
 use case_io::input::{read_part, read_whole};
 use case_io::print::{bytes, say, verdict};
 use casts::triple;
+use std::io;
+use std::io::{BufWriter, Read, Write};
 
-fn print_case(file: &[u8], kind: u8, f: u8, label: u8) {
+fn print_case<W: Write>(writer: &mut W, file: &[u8], kind: u8, f: u8, label: u8) -> io::Result<()> {
     if kind == 0 {
-        verdict(procedure_file::check::check(file));
+        verdict(writer, procedure_file::check::check(file))?;
     } else {
-        verdict(procedure_lookup::block_refusal(file, f, label));
-        bytes(procedure_lookup::block(file, f, label), false);
+        verdict(writer, procedure_lookup::block_refusal(file, f, label))?;
+        bytes(writer, procedure_lookup::block(file, f, label), false)?;
     }
-    say(b"\n");
+    say(writer, b"\n")
 }
 
 // One record; false at the end of the input.
-fn run_record() -> bool {
+fn run_record<R: Read, W: Write>(reader: &mut R, writer: &mut W) -> io::Result<bool> {
     let mut head = [0u8; 6];
-    if !read_whole(&mut head) {
-        return false;
+    if !read_whole(reader, &mut head)? {
+        return Ok(false);
     }
     let size = triple(head[3], head[4], head[5]);
-    let mut buffer = io::large_buffer();
-    let got = read_part(&mut buffer, size);
+    let mut buffer = [0u8; 65536];
+    let got = read_part(reader, &mut buffer, size)?;
     if got < size {
-        return false;
+        return Ok(false);
     }
-    print_case(&buffer[..got], head[0], head[1], head[2]);
-    true
+    print_case(writer, &buffer[..got], head[0], head[1], head[2])?;
+    Ok(true)
 }
 
-fn main() {
-    let mut turns: usize = 100000;
-    while turns > 0 && run_record() {
-        turns -= 1;
+fn main(rt: HostRuntime) -> io::Result<()> {
+    let mut reader = rt.stdin();
+    let mut writer = BufWriter::new(rt.alloc(), rt.stdout())?;
+    for _ in 0..100000 {
+        if !run_record(&mut reader, &mut writer)? {
+            break;
+        }
     }
+    writer.flush()
 }

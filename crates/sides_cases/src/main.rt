@@ -14,6 +14,8 @@ use case_io::print::{bytes, numbered, refusal, say};
 use case_io::words::{print_rest, print_stop};
 use casts::{pair, triple, word};
 use parsing::{Checked, version_of};
+use std::io;
+use std::io::{BufWriter, Read, Write};
 
 // What the bytes of the room hold before a call.
 const UNTOUCHED_BYTE: u8 = 7;
@@ -31,58 +33,78 @@ fn untouched(part: &[u8]) -> bool {
 }
 
 // The translation, and `kept` where the room past it is as it was.
-fn print_translation(out: &[u8], size: usize) {
+fn print_translation<W: Write>(writer: &mut W, out: &[u8], size: usize) -> io::Result<()> {
     let n = room(out, size);
-    numbered(b"target", size as u64);
-    say(b" ");
-    bytes(&out[..n], true);
+    numbered(writer, b"target", size as u64)?;
+    say(writer, b" ")?;
+    bytes(writer, &out[..n], true)?;
     if untouched(&out[n..]) {
-        say(b" kept");
+        say(writer, b" kept")?;
     }
-    say(b"\n");
+    say(writer, b"\n")
 }
 
-fn print_bench(b: bench::machine::Answer, version: u8, frames: &[i32], depth: usize) {
-    say(b"bench ");
+fn print_bench<W: Write>(
+    writer: &mut W,
+    b: bench::machine::Answer,
+    version: u8,
+    frames: &[i32],
+    depth: usize,
+) -> io::Result<()> {
+    say(writer, b"bench ")?;
     let regs = b.regs;
     let stopped = b.stopped;
-    let waiting = print_stop(stopped, version, regs.waiting);
-    numbered(b" steps", b.steps);
-    numbered(b" extras", b.extras);
-    print_rest(frames, waiting, depth);
-    say(b"\n");
+    let waiting = print_stop(writer, stopped, version, regs.waiting)?;
+    numbered(writer, b" steps", b.steps)?;
+    numbered(writer, b" extras", b.extras)?;
+    print_rest(writer, frames, waiting, depth)?;
+    say(writer, b"\n")
 }
 
-fn print_controller(c: controller::machine::Answer, version: u8, records: &[i32], depth: usize) {
-    say(b"controller ");
+fn print_controller<W: Write>(
+    writer: &mut W,
+    c: controller::machine::Answer,
+    version: u8,
+    records: &[i32],
+    depth: usize,
+) -> io::Result<()> {
+    say(writer, b"controller ")?;
     let regs = c.regs;
     let stopped = c.stopped;
-    let used = print_stop(stopped, version, regs.records);
-    numbered(b" steps", c.steps);
-    print_rest(records, used, depth);
-    say(b"\n");
+    let used = print_stop(writer, stopped, version, regs.records)?;
+    numbered(writer, b" steps", c.steps)?;
+    print_rest(writer, records, used, depth)?;
+    say(writer, b"\n")
 }
 
 // The lines of a record: of a refused call the refusal, and `kept` where all lent memory is as it was.
-fn print_answer(a: Sides, version: u8, depth: usize, frames: &[i32], out: &[u8], records: &[i32]) {
+fn print_answer<W: Write>(
+    writer: &mut W,
+    a: Sides,
+    version: u8,
+    depth: usize,
+    frames: &[i32],
+    out: &[u8],
+    records: &[i32],
+) -> io::Result<()> {
     let verdict = a.verdict;
     match verdict {
         Checked::Refused(r) => {
-            refusal(r);
+            refusal(writer, r)?;
             if all_are(frames, UNTOUCHED) && untouched(out) && all_are(records, UNTOUCHED) {
-                say(b" kept");
+                say(writer, b" kept")?;
             }
-            say(b"\n");
+            say(writer, b"\n")
         }
         Checked::Accepted => {
-            print_translation(out, a.target);
-            print_bench(a.bench, version, frames, depth);
-            print_controller(a.controller, version, records, depth);
+            print_translation(writer, out, a.target)?;
+            print_bench(writer, a.bench, version, frames, depth)?;
+            print_controller(writer, a.controller, version, records, depth)
         }
     }
 }
 
-fn run_on(head: &[u8; 17], given: &[u8], file: &[u8]) {
+fn run_on<W: Write>(writer: &mut W, head: &[u8; 17], given: &[u8], file: &[u8]) -> io::Result<()> {
     let start = pair(head[0], head[1]);
     let depth = pair(head[3], head[4]);
     let budget = word(head[5], head[6], head[7], head[8]);
@@ -107,34 +129,38 @@ fn run_on(head: &[u8; 17], given: &[u8], file: &[u8]) {
         &mut out[..space],
         &mut records[..recorded],
     );
-    print_answer(a, version_of(file), depth, frames, out, records);
+    print_answer(writer, a, version_of(file), depth, frames, out, records)
 }
 
 // One record; false at the end of the input.
-fn run_record() -> bool {
+fn run_record<R: Read, W: Write>(reader: &mut R, writer: &mut W) -> io::Result<bool> {
     let mut head = [0u8; 17];
-    if !read_whole(&mut head) {
-        return false;
+    if !read_whole(reader, &mut head)? {
+        return Ok(false);
     }
     let size = argument_bytes(head[2]);
     let mut given = [0u8; 1020];
-    let got = read_part(&mut given, size);
+    let got = read_part(reader, &mut given, size)?;
     if got < size {
-        return false;
+        return Ok(false);
     }
     let length = triple(head[14], head[15], head[16]);
-    let mut buffer = io::large_buffer();
-    let read = read_part(&mut buffer, length);
+    let mut buffer = [0u8; 65536];
+    let read = read_part(reader, &mut buffer, length)?;
     if read < length {
-        return false;
+        return Ok(false);
     }
-    run_on(&head, &given[..got], &buffer[..read]);
-    true
+    run_on(writer, &head, &given[..got], &buffer[..read])?;
+    Ok(true)
 }
 
-fn main() {
-    let mut turns: usize = 100000;
-    while turns > 0 && run_record() {
-        turns -= 1;
+fn main(rt: HostRuntime) -> io::Result<()> {
+    let mut reader = rt.stdin();
+    let mut writer = BufWriter::new(rt.alloc(), rt.stdout())?;
+    for _ in 0..100000 {
+        if !run_record(&mut reader, &mut writer)? {
+            break;
+        }
     }
+    writer.flush()
 }

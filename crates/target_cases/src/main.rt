@@ -6,27 +6,33 @@
 use case_io::input::{read_part, read_whole};
 use case_io::print::{say, verdict};
 use casts::triple;
+use std::io;
+use std::io::{BufWriter, Read, Write};
 
 // One record; false at the end of the input.
-fn run_record() -> bool {
+fn run_record<R: Read, W: Write>(reader: &mut R, writer: &mut W) -> io::Result<bool> {
     let mut head = [0u8; 3];
-    if !read_whole(&mut head) {
-        return false;
+    if !read_whole(reader, &mut head)? {
+        return Ok(false);
     }
     let size = triple(head[0], head[1], head[2]);
     let mut buffer = [0u8; 131072];
-    let got = read_part(&mut buffer, size);
+    let got = read_part(reader, &mut buffer, size)?;
     if got < size {
-        return false;
+        return Ok(false);
     }
-    verdict(target_file::check::check(&buffer[..got]));
-    say(b"\n");
-    true
+    verdict(writer, target_file::check::check(&buffer[..got]))?;
+    say(writer, b"\n")?;
+    Ok(true)
 }
 
-fn main() {
-    let mut turns: usize = 10000;
-    while turns > 0 && run_record() {
-        turns -= 1;
+fn main(rt: HostRuntime) -> io::Result<()> {
+    let mut reader = rt.stdin();
+    let mut writer = BufWriter::new(rt.alloc(), rt.stdout())?;
+    for _ in 0..10000 {
+        if !run_record(&mut reader, &mut writer)? {
+            break;
+        }
     }
+    writer.flush()
 }

@@ -8,48 +8,57 @@ use case_fields::record::room;
 use case_io::input::{read_part, read_whole};
 use case_io::print::{bytes, numbered, refusal, say};
 use casts::triple;
+use std::io;
+use std::io::{BufWriter, Read, Write};
 use translator::Translated;
 
-fn run_case(file: &[u8], out: &mut [u8]) {
+fn run_case<W: Write>(writer: &mut W, file: &[u8], out: &mut [u8]) -> io::Result<()> {
     match translator::translate(file, out) {
         Translated::Written(n) => {
-            numbered(b"written", n as u64);
+            numbered(writer, b"written", n as u64)?;
         }
         Translated::Refused(r) => {
-            refusal(r);
+            refusal(writer, r)?;
         }
     }
-    say(b"\n");
-    bytes(out, true);
-    say(b"\n");
+    say(writer, b"\n")?;
+    bytes(writer, out, true)?;
+    say(writer, b"\n")
 }
 
 // One record; false at the end of the input, or where the output is too short.
-fn run_record(outs: &mut [u8]) -> bool {
+fn run_record<R: Read, W: Write>(
+    reader: &mut R,
+    writer: &mut W,
+    outs: &mut [u8],
+) -> io::Result<bool> {
     let mut head = [0u8; 6];
-    if !read_whole(&mut head) {
-        return false;
+    if !read_whole(reader, &mut head)? {
+        return Ok(false);
     }
     let size = triple(head[0], head[1], head[2]);
     let wanted = triple(head[3], head[4], head[5]);
-    let mut buffer = io::large_buffer();
-    let got = read_part(&mut buffer, size);
+    let mut buffer = [0u8; 65536];
+    let got = read_part(reader, &mut buffer, size)?;
     if got < size {
-        return false;
+        return Ok(false);
     }
     let lent = room(outs, wanted);
     if lent < wanted {
-        return false;
+        return Ok(false);
     }
-    run_case(&buffer[..got], &mut outs[..lent]);
-    true
+    run_case(writer, &buffer[..got], &mut outs[..lent])?;
+    Ok(true)
 }
 
-fn main() {
-    let mut space = io::large_buffer();
-    let outs: &mut [u8] = &mut space;
-    let mut turns: usize = 100000;
-    while turns > 0 && run_record(outs) {
-        turns -= 1;
+fn main(rt: HostRuntime) -> io::Result<()> {
+    let mut reader = rt.stdin();
+    let mut writer = BufWriter::new(rt.alloc(), rt.stdout())?;
+    let mut outs = [0u8; 65536];
+    for _ in 0..100000 {
+        if !run_record(&mut reader, &mut writer, &mut outs)? {
+            break;
+        }
     }
+    writer.flush()
 }

@@ -1,4 +1,4 @@
-use Rattle.procedure_layout.specs.LayoutLaws.{block_onward, block_ended, block_halted, onward_moves}
+use Rattle.procedure_layout.proofs.LayoutLaws.{block_onward, block_ended, block_halted, onward_moves}
 use Rattle.procedure_layout.specs.After.{after_of}
 use native.Mathlib.Omega.{arith}
 use mathlib.Core.Path.{sym, ap, ◌∙◌}

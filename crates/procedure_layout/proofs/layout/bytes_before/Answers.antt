@@ -1,4 +1,4 @@
-use Rattle.procedure_layout.specs.LayoutLaws.{before_two, before_one}
+use Rattle.procedure_layout.proofs.LayoutLaws.{before_two, before_one}
 use mathlib.Core.Path.{sym, ◌∙◌}
 use Rattle.procedure_layout.proofs.layout.bytes_before.Goals as goal
 

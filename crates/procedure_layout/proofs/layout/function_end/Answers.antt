@@ -1,4 +1,4 @@
-use Rattle.procedure_layout.specs.LayoutLaws.{function_1, function_2, function_3, function_inside}
+use Rattle.procedure_layout.proofs.LayoutLaws.{function_1, function_2, function_3, function_inside}
 use native.Mathlib.Omega.{arith}
 use mathlib.Core.Path.{sym, ◌∙◌}
 use Rattle.procedure_layout.proofs.layout.function_end.Goals as goal

@@ -1,4 +1,4 @@
-use Rattle.procedure_layout.specs.LayoutLaws.{heading_1, heading_2, heading_3, count_inside}
+use Rattle.procedure_layout.proofs.LayoutLaws.{heading_1, heading_2, heading_3, count_inside}
 use Prim.Native.Nat.{◌+◌}
 use native.Mathlib.Omega.{arith}
 use mathlib.Core.Path.{sym, ◌∙◌}

@@ -1,4 +1,4 @@
-use Rattle.procedure_layout.specs.LayoutLaws.{labelled_cut, labelled_in, before_bounds}
+use Rattle.procedure_layout.proofs.LayoutLaws.{labelled_cut, labelled_in, before_bounds}
 use Rattle.procedure_layout.specs.Layout.{block}
 use Rattle.parsing.specs.Parser.{past_of}
 use Rattle.parsing.specs.Fields.{version_of}

@@ -1,4 +1,4 @@
-use Rattle.procedure_layout.specs.LayoutLaws.{program_1, program_2, program_3, program_4}
+use Rattle.procedure_layout.proofs.LayoutLaws.{program_1, program_2, program_3, program_4}
 use mathlib.Core.Path.{sym, ◌∙◌}
 use Rattle.procedure_layout.proofs.layout.layout_end.Goals as goal
 

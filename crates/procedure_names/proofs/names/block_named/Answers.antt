@@ -1,5 +1,5 @@
 use Rattle.procedure_names.specs.NamedLaws.{turn_wrong, turn_on, turn_last, not_ended, not_halted}
-use Rattle.procedure_layout.specs.LayoutLaws.{onward_moves}
+use Rattle.procedure_layout.proofs.LayoutLaws.{onward_moves}
 use Rattle.procedure_layout.specs.After.{after_of}
 use native.Mathlib.Omega.{arith}
 use mathlib.Core.Path.{sym, ap, ◌∙◌}
