@@ -1,4 +1,4 @@
-use Rattle.procedure_lookup.specs.LookupLaws.{stretch_some, stretch_none}
+use Rattle.procedure_lookup.proofs.LookupLaws.{stretch_some, stretch_none}
 use native.Mathlib.Omega.{arith}
 use mathlib.Core.Path.{sym, ◌∙◌}
 use Rattle.procedure_lookup.proofs.block.Goals as goal

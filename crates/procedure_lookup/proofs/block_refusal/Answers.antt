@@ -1,4 +1,4 @@
-use Rattle.procedure_lookup.specs.LookupLaws.{lookup_none, lookup_some}
+use Rattle.procedure_lookup.proofs.LookupLaws.{lookup_none, lookup_some}
 use mathlib.Core.Path.{sym, ◌∙◌}
 use Rattle.procedure_lookup.proofs.block_refusal.Goals as goal
 

@@ -1,5 +1,5 @@
-use Rattle.procedure_file.specs.TableLaws.{before_room}
-use Rattle.procedure_lookup.specs.LookupLaws.{find_entry, find_labelled}
+use Rattle.procedure_file.proofs.TableLaws.{before_room}
+use Rattle.procedure_lookup.proofs.LookupLaws.{find_entry, find_labelled}
 use Prim.Native.Nat.{ℕ, ◌≤◌}
 use mathlib.Core.Path.{◌≡◌}
 use native.Mathlib.Omega.{arith}

@@ -1,5 +1,5 @@
-use Rattle.procedure_file.specs.LoadedLaws.{loaded}
-use Rattle.procedure_lookup.specs.LookupLaws.{place_refused, place_found}
+use Rattle.procedure_file.proofs.LoadedLaws.{loaded}
+use Rattle.procedure_lookup.proofs.LookupLaws.{place_refused, place_found}
 use mathlib.Core.Path.{◌∙◌}
 use Rattle.procedure_lookup.proofs.place_of.Goals as goal
 

@@ -1,4 +1,4 @@
-use Rattle.procedure_file.specs.FileNamesLaws.{entry_wrong, entry_right, label_wrong, label_right}
+use Rattle.procedure_file.proofs.FileNamesLaws.{entry_wrong, entry_right, label_wrong, label_right}
 use mathlib.Core.Path.{◌∙◌}
 use Rattle.procedure_file.proofs.check.blocks_named.Goals as goal
 

@@ -1,5 +1,5 @@
 use Rattle.procedure_file.specs.Asked.{function_verdict}
-use Rattle.procedure_file.specs.FileNamesLaws.{labels_verdict}
+use Rattle.procedure_file.proofs.FileNamesLaws.{labels_verdict}
 use Prim.Native.Nat.{◌-◌}
 use mathlib.Core.Path.{◌≡◌}
 use Rattle.procedure_file.proofs.check.blocks_named.Given as goal

@@ -1,4 +1,4 @@
-use Rattle.procedure_file.specs.FileNamesLaws.{function_wrong, function_right, all_names}
+use Rattle.procedure_file.proofs.FileNamesLaws.{function_wrong, function_right, all_names}
 use mathlib.Core.Path.{◌∙◌}
 use Rattle.procedure_file.proofs.check.file_named.Goals as goal
 

@@ -1,5 +1,5 @@
 use Rattle.procedure_file.specs.Check.{program_of}
-use Rattle.procedure_file.specs.FileNamesLaws.{functions_verdict}
+use Rattle.procedure_file.proofs.FileNamesLaws.{functions_verdict}
 use Rattle.procedure_names.specs.Names.{names_of, first_wrong}
 use lib.ListN.{length}
 use Prim.Native.Nat.{◌-◌}

@@ -1,5 +1,5 @@
-use Rattle.procedure_file.specs.TableLaws.{start_room, before_room, receiver_named}
-use Rattle.procedure_file.specs.FileNamesLaws.{handler_right}
+use Rattle.procedure_file.proofs.TableLaws.{start_room, before_room, receiver_named}
+use Rattle.procedure_file.proofs.FileNamesLaws.{handler_right}
 use native.Mathlib.Omega.{arith}
 use mathlib.Core.Path.{◌∙◌}
 use Rattle.procedure_file.proofs.check.labelled_named.Goals as goal

@@ -1,4 +1,4 @@
-use Rattle.procedure_file.specs.CheckLaws.{load_wrong, load_right}
+use Rattle.procedure_file.proofs.CheckLaws.{load_wrong, load_right}
 use Rattle.procedure_file.proofs.check.load_laid.Goals as goal
 
 pub returns-in-Refused : goal.returns-in-Refused

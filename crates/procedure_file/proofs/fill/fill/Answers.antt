@@ -1,4 +1,4 @@
-use Rattle.procedure_file.specs.FillLaws.{part_begins, part_room, part_more, part_full}
+use Rattle.procedure_file.proofs.FillLaws.{part_begins, part_room, part_more, part_full}
 use native.Mathlib.Omega.{arith}
 use mathlib.Core.Path.{refl}
 use Rattle.procedure_file.proofs.fill.fill.Goals as goal

@@ -1,4 +1,4 @@
-use Rattle.procedure_file.specs.FillLaws.{Part}
+use Rattle.procedure_file.proofs.FillLaws.{Part}
 use Prim.Native.Nat.{◌-◌}
 use Rattle.procedure_file.proofs.fill.fill.Given as goal
 

@@ -1,4 +1,4 @@
-use Rattle.procedure_file.specs.FillLaws.{filled_room, row_room, row_begins, row_more, row_full}
+use Rattle.procedure_file.proofs.FillLaws.{filled_room, row_room, row_begins, row_more, row_full}
 use native.Mathlib.Omega.{arith}
 use mathlib.Core.Path.{refl}
 use Rattle.procedure_file.proofs.fill.fill_row.Goals as goal

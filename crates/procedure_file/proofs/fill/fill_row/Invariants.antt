@@ -1,4 +1,4 @@
-use Rattle.procedure_file.specs.FillLaws.{Row}
+use Rattle.procedure_file.proofs.FillLaws.{Row}
 use Prim.Native.Nat.{◌-◌}
 use Rattle.procedure_file.proofs.fill.fill_row.Given as goal
 

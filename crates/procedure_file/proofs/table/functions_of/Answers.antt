@@ -1,4 +1,4 @@
-use Rattle.procedure_file.specs.TableLaws.{count_byte, count_inside}
+use Rattle.procedure_file.proofs.TableLaws.{count_byte, count_inside}
 use mathlib.Core.Path.{◌∙◌}
 use Rattle.procedure_file.proofs.table.functions_of.Goals as goal
 

@@ -1,4 +1,4 @@
-use Rattle.procedure_file.specs.TableLaws.{start_room, count_inside, version_before, before_room, handler_byte}
+use Rattle.procedure_file.proofs.TableLaws.{start_room, count_inside, version_before, before_room, handler_byte}
 use mathlib.Core.Path.{◌∙◌}
 use native.Mathlib.Omega.{arith}
 use Rattle.procedure_file.proofs.table.handler_of.Goals as goal

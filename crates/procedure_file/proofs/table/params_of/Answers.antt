@@ -1,4 +1,4 @@
-use Rattle.procedure_file.specs.TableLaws.{heading}
+use Rattle.procedure_file.proofs.TableLaws.{heading}
 use native.Mathlib.Omega.{arith}
 use Rattle.procedure_file.proofs.table.params_of.Goals as goal
 

@@ -1,4 +1,4 @@
-use Rattle.procedure_file.specs.TableLaws.{start_room, receiver_byte_lem, receiver_none}
+use Rattle.procedure_file.proofs.TableLaws.{start_room, receiver_byte_lem, receiver_none}
 use native.Mathlib.Omega.{arith}
 use mathlib.Core.Path.{sym, ◌∙◌}
 use Rattle.procedure_file.proofs.table.receiver_of.Goals as goal

@@ -1,4 +1,4 @@
-use Rattle.procedure_file.specs.TableLaws.{index_bound, start_is}
+use Rattle.procedure_file.proofs.TableLaws.{index_bound, start_is}
 use native.Mathlib.Omega.{arith}
 use mathlib.Core.Path.{◌∙◌}
 use Rattle.procedure_file.proofs.table.start_of.Goals as goal
