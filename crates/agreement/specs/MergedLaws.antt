@@ -8,8 +8,8 @@ use Rattle.semantics.specs.Run.{Result, summary}
 use Rattle.semantics.specs.Controller.{target_of}
 use Rattle.semantics.specs.Translation.{translate}
 use Rattle.semantics.specs.Merge.{merged, RunsAlike}
-use Rattle.semantics.specs.MergeLaws.{merged_runs_alike, merged_length, merged_first, merged_second}
-use Rattle.semantics.specs.AlikeLaws.{Paired, controllers_alike, forever_alike}
+use Rattle.semantics.proofs.MergeLaws.{merged_runs_alike, merged_length, merged_first, merged_second}
+use Rattle.semantics.proofs.AlikeLaws.{Paired, controllers_alike, forever_alike}
 use Rattle.parsing.specs.Parser.{Verdict, accepted, refused, or_else}
 use Rattle.parsing.specs.Bytes.{Bytes}
 use Rattle.parsing.specs.VerdictLaws.{or_accepted}
@@ -18,14 +18,14 @@ use Rattle.memory.specs.Call.{arguments_verdict, call_verdict}
 use Rattle.memory.specs.CallLaws.{start_fits, fitting_arguments, fitting_call}
 use Rattle.runs.specs.Tells.{by_verdict}
 use Rattle.procedure_file.specs.Check.{check_of, program_of}
-use Rattle.procedure_file.specs.AcceptedLaws.{is_writing_lem}
+use Rattle.procedure_file.proofs.AcceptedLaws.{is_writing_lem}
 use Rattle.target_file.specs.Check as Target
 use Rattle.target_file.specs.Writing.{writing}
 use Rattle.translator.specs.Translated.{translation_of}
 use Rattle.bench.specs.Published.{run_summary, bench_verdict, bench_tells}
 use Rattle.controller.specs.Published.{controller_verdict, controller_tells}
 use Rattle.merge.specs.Merged.{merged_of, files_verdict, merge_verdict, MergedFile}
-use Rattle.merge.specs.AcceptedLaws.{merges_accepted}
+use Rattle.merge.proofs.AcceptedLaws.{merges_accepted}
 use Rattle.agreement.specs.Statement.{entry_of, translation_run, Claim}
 use Rattle.agreement.specs.Theorem.{files_agree}
 use Rattle.agreement.specs.Merged.{AsBefore, FilesMerge}

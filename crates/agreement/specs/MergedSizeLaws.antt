@@ -12,7 +12,7 @@ use Rattle.semantics.specs.Merge.{renumbered_block, renumbered_labelled, renumbe
 use Rattle.semantics.specs.Code.{Slot, Expr, Target, Code}
 use Rattle.semantics.specs.Translation.{slot_of, to_label, receiver_in, receiver_at, receiver_slot, parameter_slot, bind_raised, raise_code, code, bind_zeros, entry_target, block_target, targets, number, translate_function, translate_from, translate}
 use Rattle.target_file.specs.Writing.{slot_width, size, target_bytes, writing}
-use Rattle.target_file.specs.ReadsBackLaws.{bytes_length}
+use Rattle.target_file.proofs.ReadsBackLaws.{bytes_length}
 
 zeros_size : (x : Slot) (n : ℕ) (e e' : Expr) → size e ≡ size e' → size (bind_zeros x n e) ≡ size (bind_zeros x n e')
 zeros_size x zero e e' q = q

@@ -17,9 +17,9 @@ use Rattle.memory.specs.Call.{start_verdict, arguments_verdict, words_verdict}
 use Rattle.memory.specs.CallLaws.{fitting_start, fitting_arguments, fitting_words}
 use Rattle.runs.specs.Stopped.{stopped_as}
 use Rattle.runs.specs.Tells.{tells}
-use Rattle.runs.specs.TellsLaws.{answered}
-use Rattle.runs.specs.CallLaws.{Promised, promised_refused, promised_ran}
-use Rattle.runs.specs.OutputLaws.{lay_front}
+use Rattle.runs.proofs.TellsLaws.{answered}
+use Rattle.runs.proofs.CallLaws.{Promised, promised_refused, promised_ran}
+use Rattle.runs.proofs.OutputLaws.{lay_front}
 use Rattle.procedure_file.specs.Check.{check_of, program_of}
 use Rattle.procedure_file.specs.Loaded.{Loaded}
 use Rattle.target_file.specs.Check as Target

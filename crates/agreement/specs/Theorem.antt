@@ -11,17 +11,17 @@ use Rattle.semantics.specs.Bench.{State, waiting, bench}
 use Rattle.semantics.specs.Controller.{in_use, controller, target_of, no_target, code_version}
 use Rattle.semantics.specs.SlotStates.{StateKeeps}
 use Rattle.semantics.specs.SlotCount.{UsesSlots, slots_used}
-use Rattle.semantics.specs.SlotCountLaws.{translation_uses, used_above}
+use Rattle.semantics.proofs.SlotCountLaws.{translation_uses, used_above}
 use Rattle.semantics.specs.Translation.{entry_target, number, translate}
 use Rattle.semantics.specs.Extras.{extras}
 use Rattle.semantics.specs.Statement.{StopsMatch, Agree, Sound}
-use Rattle.semantics.specs.ListLaws.{at_below, get_d_at}
-use Rattle.semantics.specs.TranslationLaws.{entry_at}
-use Rattle.semantics.specs.Theorem.{demand3, bench_is_sound}
-use Rattle.semantics.specs.SlotStateLaws.{controller_is_sound}
-use Rattle.semantics.specs.DroppedLaws.{dropped_forgotten}
-use Rattle.semantics.specs.AlikeLaws.{one_more_bare}
-use Rattle.semantics.specs.StopLaws.{bench_bound, extras_bound_lem, Together, together, Exactly, exactly, bench_again, controller_left}
+use Rattle.semantics.proofs.ListLaws.{at_below, get_d_at}
+use Rattle.semantics.proofs.TranslationLaws.{entry_at}
+use Rattle.semantics.proofs.Theorem.{demand3, bench_is_sound}
+use Rattle.semantics.proofs.SlotStateLaws.{controller_is_sound}
+use Rattle.semantics.proofs.DroppedLaws.{dropped_forgotten}
+use Rattle.semantics.proofs.AlikeLaws.{one_more_bare}
+use Rattle.semantics.proofs.StopLaws.{bench_bound, extras_bound_lem, Together, together, Exactly, exactly, bench_again, controller_left}
 use Rattle.parsing.specs.Parser.{Verdict, accepted, refused}
 use Rattle.parsing.specs.Bytes.{Bytes}
 use Rattle.memory.specs.Frame.{frame_size}
@@ -31,13 +31,13 @@ use Rattle.runs.specs.Tells.{Tells, tells, by_verdict}
 use Rattle.procedure_names.specs.Writing.{ValuesFit, ReceiverFits, LabelledFits, FunctionInRange}
 use Rattle.procedure_file.specs.Check as Procedure
 use Rattle.procedure_file.specs.Accepted.{HasFile}
-use Rattle.procedure_file.specs.AcceptedLaws.{is_writing_lem}
+use Rattle.procedure_file.proofs.AcceptedLaws.{is_writing_lem}
 use Rattle.target_file.specs.Check as Target
 use Rattle.target_file.specs.Translated.{NamedInTwo, BlockFits, FunctionFits, Source}
 use Rattle.target_file.specs.Translated as Translated
 use Rattle.target_tags.specs.Tag.{slots_in}
-use Rattle.target_file.specs.AcceptedLaws as TargetLaws
-use Rattle.target_file.specs.TranslatedLaws.{translation_accepted, translation_rules}
+use Rattle.target_file.proofs.AcceptedLaws as TargetLaws
+use Rattle.target_file.proofs.TranslatedLaws.{translation_accepted, translation_rules}
 use Rattle.translator.specs.Translated.{translation_of}
 use Rattle.bench.specs.Published.{bench_verdict, bench_tells}
 use Rattle.bench.specs.Published as Bench

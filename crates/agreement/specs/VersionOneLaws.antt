@@ -8,7 +8,7 @@ use Rattle.semantics.specs.WellFormed.{All}
 use Rattle.semantics.specs.Code.{Slot, Expr, let_constant, let_slot, let_difference, jump, resume, handle, if_at_most, let_continuation, let_continuation_with_handler, let_difference_or_raise, Target}
 use Rattle.semantics.specs.Controller.{Control, code_version}
 use Rattle.semantics.specs.VersionOne.{BlockOne, ProgramOne, ExprOne, CodeOne}
-use Rattle.semantics.specs.VersionOneLaws.{version_one}
+use Rattle.semantics.proofs.VersionOneLaws.{version_one}
 use Rattle.parsing.specs.Parser.{accepted}
 use Rattle.parsing.specs.Fields.{version_of}
 use Rattle.parsing.specs.Bytes.{Bytes}
@@ -16,10 +16,10 @@ use Rattle.target_tags.specs.Tag.{number_width}
 use Rattle.procedure_names.specs.Writing.{ValuesFit, ReceiverFits, LabelledFits, FunctionInRange}
 use Rattle.procedure_names.specs.Writing as ProcedureWriting
 use Rattle.procedure_file.specs.Check as Procedure
-use Rattle.procedure_file.specs.AcceptedLaws as ProcedureLaws
+use Rattle.procedure_file.proofs.AcceptedLaws as ProcedureLaws
 use Rattle.target_file.specs.Check as Target
 use Rattle.target_file.specs.Writing.{slot_width, FieldsFit, TargetInRange, writing}
-use Rattle.target_file.specs.AcceptedLaws as TargetLaws
+use Rattle.target_file.proofs.AcceptedLaws as TargetLaws
 use Rattle.translator.specs.Translated.{translation_of}
 use Rattle.runs.specs.Tells.{by_verdict}
 use Rattle.bench.specs.Published.{bench_verdict, bench_tells}

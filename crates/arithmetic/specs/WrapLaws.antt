@@ -5,7 +5,7 @@ use Rattle.std.proofs.Math.IntN.{sub_ℕ}
 use Rattle.std.specs.Int.Signed.{mag, lt_z, le_z}
 use Rattle.std.specs.Int.{w32, w64}
 use Rattle.semantics.specs.Value.{wrapped, least, greatest, in_range}
-use Rattle.semantics.specs.ValueLaws.{IsValue, to_z_below_half, to_z_from_half, wrapped_value, wrapped_same}
+use Rattle.semantics.proofs.ValueLaws.{IsValue, to_z_below_half, to_z_from_half, wrapped_value, wrapped_same}
 
 impossible : {A : Type 0} → false ≡ true → A
 impossible e = let z : ◌≡◌ {A = ℕ} 0 1 = cc in absurd (omega arith)

@@ -10,7 +10,7 @@ use Rattle.parsing.specs.Parser.{Verdict, refused, verdict_of}
 use Rattle.memory.specs.Frame.{frame_size}
 use Rattle.memory.specs.Call.{arguments_verdict, call_verdict}
 use Rattle.memory.specs.CallLaws.{fitting_arguments, fitting_call, refused_by_check, judged_so}
-use Rattle.runs.specs.CallLaws.{Promised, promised_refused, promised_ran}
+use Rattle.runs.proofs.CallLaws.{Promised, promised_refused, promised_ran}
 use Rattle.procedure_file.specs.Check.{check_of, program_of}
 use Rattle.procedure_file.specs.Loaded.{Loaded}
 use Rattle.bench.specs.declared.machine.Answer.{Answer}

@@ -11,7 +11,7 @@ use Rattle.semantics.specs.Run.{Result, run, total, summary}
 use Rattle.semantics.specs.Bench.{Frame, State, state, begun, step, bench}
 use Rattle.semantics.specs.WellFormed.{WellFormedState}
 use Rattle.semantics.specs.Extras.{extra, extras}
-use Rattle.semantics.specs.Theorem.{start_well_formed}
+use Rattle.semantics.proofs.Theorem.{start_well_formed}
 use Rattle.parsing.specs.declared.Checked.TheVariants.{Accepted}
 use Rattle.memory.specs.Lay.{lay}
 use Rattle.memory.specs.Frame.{frame_size}

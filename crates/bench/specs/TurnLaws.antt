@@ -5,7 +5,7 @@ use Rattle.std.proofs.Math.ListN.{get_or-eq_default}
 use Rattle.semantics.specs.Program.{Function, no_function}
 use Rattle.semantics.specs.Bench.{State, step}
 use Rattle.semantics.specs.Extras.{extra}
-use Rattle.semantics.specs.StopLaws.{extra_bound}
+use Rattle.semantics.proofs.StopLaws.{extra_bound}
 use Rattle.runs.specs.declared.End.{End}
 use Rattle.runs.specs.declared.Stopped.TheVariants as Stopped
 use Rattle.runs.specs.Stopped.{end_as}

@@ -12,8 +12,8 @@ use Rattle.semantics.specs.Program.{Block, variables, no_function}
 use Rattle.semantics.specs.Run.{next, too_deep}
 use Rattle.semantics.specs.Bench.{Frame, frame, state, begun, step}
 use Rattle.semantics.specs.WellFormed.{All}
-use Rattle.semantics.specs.ListLaws.{at_get_d}
-use Rattle.semantics.specs.SlotLaws.{values_are}
+use Rattle.semantics.proofs.ListLaws.{at_get_d}
+use Rattle.semantics.proofs.SlotLaws.{values_are}
 use Rattle.memory.specs.declared.Head.{Head}
 use Rattle.memory.specs.Lay.{lay}
 use Rattle.memory.specs.Frame.{frame_size, frame_at, Small, frame_words, values_of}

@@ -7,7 +7,7 @@ use Rattle.semantics.specs.Run.{next}
 use Rattle.semantics.specs.Bench.{Frame, frame, State, state, waiting, step}
 use Rattle.semantics.specs.WellFormed.{WellFormedPlace}
 use Rattle.semantics.specs.Extras.{extra}
-use Rattle.semantics.specs.FollowCall.{step_well_formed}
+use Rattle.semantics.proofs.FollowCall.{step_well_formed}
 use Rattle.memory.specs.declared.Head.{Head}
 use Rattle.memory.specs.Lay.{lay}
 use Rattle.memory.specs.Frame.{frame_size, frame_at}

@@ -6,13 +6,13 @@ use mathlib.Core.List.{List}
 use Rattle.std.proofs.Math.Option.{none, some}
 use Rattle.std.proofs.Math.Seq.{take-set-lt}
 use Rattle.semantics.specs.Value.{minus, in_range, at_most}
-use Rattle.semantics.specs.ValueLaws.{minus_same}
+use Rattle.semantics.proofs.ValueLaws.{minus_same}
 use Rattle.semantics.specs.Program.{Label}
 use Rattle.semantics.specs.Run.{next}
 use Rattle.semantics.specs.Bench.{Frame, state, raised, step}
 use Rattle.semantics.specs.WellFormed.{IsLabel}
 use Rattle.semantics.specs.Extras.{raise_extra, extra}
-use Rattle.semantics.specs.SlotLaws.{given_some}
+use Rattle.semantics.proofs.SlotLaws.{given_some}
 use Rattle.procedure_operations.specs.declared.operation.Operation.{Operation}
 use Rattle.procedure_operations.specs.declared.operation.Operation.TheVariants.{Constant, Copy, Difference, Goto, Branch, RaiseValue}
 use Rattle.procedure_operations.specs.Operation.{operation_at}

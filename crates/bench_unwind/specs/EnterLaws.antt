@@ -12,8 +12,8 @@ use Rattle.semantics.specs.Bench.{Frame, state, enter, received, enter_by_raise,
 use Rattle.semantics.specs.WellFormed.{IsLabel, MayName}
 use Rattle.semantics.specs.Translation.{receiver_in, receiver_at}
 use Rattle.semantics.specs.Extras.{one, value_of, extra}
-use Rattle.semantics.specs.ListLaws.{at_get_d}
-use Rattle.semantics.specs.SlotLaws.{given_some}
+use Rattle.semantics.proofs.ListLaws.{at_get_d}
+use Rattle.semantics.proofs.SlotLaws.{given_some}
 use Rattle.procedure_file.specs.Check.{program_of}
 use Rattle.procedure_layout.specs.Rest.{rest_at}
 use Rattle.procedure_file.specs.Places.{start_of, handler_of, receiver_of}

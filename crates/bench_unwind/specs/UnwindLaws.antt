@@ -17,11 +17,11 @@ use Rattle.semantics.specs.Bench.{Frame, frame, state, returned, enter_by_raise,
 use Rattle.semantics.specs.WellFormed.{All, IsLabel, WellFormedFrame}
 use Rattle.semantics.specs.Extras.{caught, one, bindings, raise_extra}
 use Rattle.semantics.specs.Translation.{slot_of, receiver_at}
-use Rattle.semantics.specs.Follow.{length_received}
+use Rattle.semantics.proofs.Follow.{length_received}
 use Rattle.parsing.specs.Fields.{version_of}
 use Rattle.procedure_file.specs.Places.{start_of, handler_of, receiver_of}
 use Rattle.semantics.specs.Matching.{newest_guarded}
-use Rattle.semantics.specs.SlotLaws.{given_some}
+use Rattle.semantics.proofs.SlotLaws.{given_some}
 use Rattle.memory.specs.declared.Head.{Head}
 use Rattle.memory.specs.Lay.{lay}
 use Rattle.memory.specs.Frame.{frame_size, frame_at, head_of, values_of}

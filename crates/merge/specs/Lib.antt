@@ -3,9 +3,3 @@
 pub mod Merged
 pub mod Parts
 pub mod Asked
--- Laws: AcceptedLaws proves what Merged claims.
-pub mod StretchLaws
-pub mod BlockLaws
-pub mod FunctionLaws
-pub mod FileLaws
-pub mod AcceptedLaws

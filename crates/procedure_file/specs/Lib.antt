@@ -7,16 +7,7 @@ pub mod Loaded
 pub mod FileInvariant
 pub mod Asked
 pub mod SizeFirst
--- Laws: AcceptedLaws proves Accepted, FileInvariantLaws proves FileInvariant of every accepted file, SizeFirstLaws which answers Slip 5 changed.
+-- Laws; those that rest on Check are in proofs/.
 pub mod WrittenLaws
 pub mod ReadsBackLaws
-pub mod BytesLaws
-pub mod AcceptedLaws
 pub mod PlacesLaws
-pub mod TableLaws
-pub mod FillLaws
-pub mod FileNamesLaws
-pub mod CheckLaws
-pub mod FileInvariantLaws
-pub mod LoadedLaws
-pub mod SizeFirstLaws

@@ -19,8 +19,8 @@ use Rattle.procedure_layout.specs.Rest.{rest_from, rest_at}
 use Rattle.parsing.specs.Bytes.{Bytes}
 use Rattle.procedure_file.specs.Places.{function_place, label_place, start_of, no_labelled, block_of, handler_of, receiver_of}
 use Rattle.procedure_operations.specs.OperationLaws.{op_constant, op_copy, op_difference, op_call, op_goto, op_return, op_branch, op_raise, op_raise_value}
-use Rattle.procedure_layout.specs.WalkLaws.{block_law, rest_law}
-use Rattle.procedure_layout.specs.BlockLaws.{ReadBlock, read_constant, read_copy, read_difference, read_call, read_goto, read_return, read_branch, read_raise, read_raise_value}
+use Rattle.procedure_layout.proofs.WalkLaws.{block_law, rest_law}
+use Rattle.procedure_layout.proofs.BlockLaws.{ReadBlock, read_constant, read_copy, read_difference, read_call, read_goto, read_return, read_branch, read_raise, read_raise_value}
 use Rattle.procedure_file.specs.WrittenLaws.{bytes_at_block, bytes_at_labelled, bytes_at_function, ReadLabelled, read_labelled, ReadFunction, read_function, ReadProgram}
 
 module _ (s : List ℕ) where

@@ -8,7 +8,7 @@ use Rattle.parsing.specs.Parser.{read, and_then, many, joined}
 use Rattle.parsing.specs.Fields.{byte, version_of, count, value_at}
 use Rattle.parsing.specs.ReadsLaws.{Reads, behind, byte_here, first_here, length_here, next_here, reads_bind, reads_map, reads_many, reads_byte, reads_count, reads_head, reads_ended}
 use Rattle.semantics.specs.Program.{Block, constant, copy, difference, call, goto, return, branch, raise, Labelled, Function, Program, program_version}
-use Rattle.semantics.specs.ListLaws.{all_get_d}
+use Rattle.semantics.proofs.ListLaws.{all_get_d}
 use Rattle.procedure_operations.specs.declared.operation.Operation.{Operation}
 use Rattle.procedure_operations.specs.declared.operation.Operation.TheVariants.{Constant, Copy, Difference, Call, Goto, Return, Branch, Raise, RaiseValue}
 use Rattle.procedure_operations.specs.Operation.{operation_at}
@@ -18,7 +18,7 @@ use Rattle.parsing.specs.BytesLaws.{value_forth}
 use Rattle.procedure_names.specs.Writing.{block_bytes, labelled_bytes, function_bytes, writing, ValuesFit, LabelledFits, FunctionInRange, InRange}
 use Rattle.procedure_names.specs.ReceiverLaws.{reads_receiver}
 use Rattle.procedure_operations.specs.OperationLaws.{op_constant, op_copy, op_difference, op_call, op_goto, op_return, op_branch, op_raise, op_raise_value}
-use Rattle.procedure_layout.specs.WalkLaws.{block_law}
+use Rattle.procedure_layout.proofs.WalkLaws.{block_law}
 
 -- An operation before a block that is read.
 block_behind : (s : List ℕ) (at m n n' : ℕ) (c : Block → Block) (b : Block) → block s at ≡ before c (block s m) → block s m ≡ read b n → n ≡ n' → block s at ≡ read (c b) n'

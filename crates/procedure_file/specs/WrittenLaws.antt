@@ -18,8 +18,8 @@ use Rattle.parsing.specs.Bytes.{Bytes, value_bytes}
 use Rattle.parsing.specs.BytesLaws.{value_back, value_range}
 use Rattle.procedure_names.specs.Writing.{block_bytes, labelled_bytes, function_bytes, writing, ValuesFit, LabelledFits, FunctionInRange, InRange}
 use Rattle.procedure_names.specs.ReceiverLaws.{before_length, ReadReceiver, read_receiver}
-use Rattle.procedure_layout.specs.LayoutLaws.{HeadingAt, read_heading}
-use Rattle.procedure_layout.specs.BlockLaws.{ReadBlock, read_constant, read_copy, read_difference, read_call, read_goto, read_return, read_branch, read_raise, read_raise_value, read_block}
+use Rattle.procedure_layout.proofs.LayoutLaws.{HeadingAt, read_heading}
+use Rattle.procedure_layout.proofs.BlockLaws.{ReadBlock, read_constant, read_copy, read_difference, read_call, read_goto, read_return, read_branch, read_raise, read_raise_value, read_block}
 
 module _ (s : List ℕ) (bytes : Bytes s) where
   -- The value behind an operation byte and a variable, by its bytes.

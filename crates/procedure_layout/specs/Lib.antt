@@ -2,7 +2,3 @@
 pub mod Layout
 pub mod Rest
 pub mod After
--- Laws.
-pub mod WalkLaws
-pub mod LayoutLaws
-pub mod BlockLaws

@@ -1,3 +1,2 @@
--- The lookup of blocks: Lookup defines the answers, LookupLaws has the laws that the functions cite.
+-- The lookup of blocks: Lookup defines the answers.
 pub mod Lookup
-pub mod LookupLaws

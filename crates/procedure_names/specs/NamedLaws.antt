@@ -20,7 +20,7 @@ use Rattle.procedure_names.specs.Names.{Name, variable, label, handler, receiver
 use Rattle.procedure_names.specs.OperationNames.{operation_names}
 use Rattle.procedure_operations.specs.OperationLaws.{operation_past}
 use Rattle.procedure_operations.specs.ViewLaws.{View, is_constant, is_copy, is_difference, is_call, is_goto, is_return, is_branch, is_raise, is_raise_value, is_refused, view}
-use Rattle.procedure_layout.specs.WalkLaws.{rest_law}
+use Rattle.procedure_layout.proofs.WalkLaws.{rest_law}
 use Rattle.procedure_names.specs.NamesLaws.{first_append}
 
 -- One name.

@@ -7,7 +7,7 @@ use Rattle.parsing.specs.SizeFirst.{head_size_first, AnswerChange}
 use Rattle.parsing.specs.SizeFirstLaws.{changed, changed_within}
 use Rattle.parsing.specs.BytesAtLaws.{read_head}
 use Rattle.procedure_layout.specs.Layout.{spf}
-use Rattle.procedure_file.specs.SizeFirstLaws.{check_changed}
+use Rattle.procedure_file.proofs.SizeFirstLaws.{check_changed}
 use Rattle.report.specs.Report.{file_verdict}
 use Rattle.report.specs.SizeFirst.{file_verdict_size_first}
 

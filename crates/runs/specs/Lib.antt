@@ -4,9 +4,6 @@ pub mod Stopped
 pub mod Tells
 pub mod Words
 pub mod Machine
--- Laws.
-pub mod TellsLaws
-pub mod CallLaws
-pub mod OutputLaws
+-- Laws; those that rest on Tells are in proofs/.
 pub mod WordsLaws
 pub mod MachineLaws

@@ -1,7 +1,3 @@
 -- The expressions of translated files. Definitions: Expressions; Ends has what the functions answer.
 pub mod Expressions
 pub mod Ends
--- Laws.
-pub mod ExpressionLaws
-pub mod PartLaws
-pub mod EndLaws

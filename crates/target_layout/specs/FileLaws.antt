@@ -21,7 +21,7 @@ use Rattle.target_parts.specs.Parts.{pair, sized}
 use Rattle.target_parts.specs.PartsLaws.{pair_is, pair_outside}
 use Rattle.target_expressions.specs.Expressions.{expression}
 use Rattle.target_expressions.specs.Ends.{body_end}
-use Rattle.target_expressions.specs.PartLaws.{impossible}
+use Rattle.target_expressions.proofs.PartLaws.{impossible}
 use Rattle.target_layout.specs.Layout.{spc, function, functions, targets, code}
 
 -- The number of functions.

@@ -13,19 +13,19 @@ use Rattle.parsing.specs.Fields.{version_of}
 use Rattle.semantics.specs.Program.{Function, Program, variables, function_of, no_function}
 use Rattle.semantics.specs.Translation.{targets, number, translate_function, translate_from, translate}
 use Rattle.semantics.specs.Controller.{code_version}
-use Rattle.semantics.specs.TranslationLaws.{length_translate_function}
+use Rattle.semantics.proofs.TranslationLaws.{length_translate_function}
 use Rattle.procedure_file.specs.Check.{program_of}
 use Rattle.procedure_file.specs.Loaded.{Laid, Loaded}
-use Rattle.procedure_file.specs.AcceptedLaws.{laid_reads}
-use Rattle.procedure_file.specs.TableLaws.{blocks_bound_lem}
-use Rattle.procedure_file.specs.LoadedLaws.{loaded_invariant}
+use Rattle.procedure_file.proofs.AcceptedLaws.{laid_reads}
+use Rattle.procedure_file.proofs.TableLaws.{blocks_bound_lem}
+use Rattle.procedure_file.proofs.LoadedLaws.{loaded_invariant}
 use Rattle.target_file.specs.Writing.{target_bytes, writing}
 use Rattle.translator_sizes.specs.declared.Fields.{Fields}
 use Rattle.translator.specs.Translated.{translation_of}
 use Rattle.translator_sizes.specs.Parts.{part_bytes, fields_of, label_bytes, function_bytes, functions_bytes}
 use Rattle.byte_writers.specs.Writes.{Room, Wrote}
 use Rattle.byte_writers.specs.WriteLaws.{room_less, room_as, room_behind, room_behind_two, wrote_after}
-use Rattle.translator_bytes.specs.JumpLaws.{pair_as}
+use Rattle.translator_bytes.proofs.JumpLaws.{pair_as}
 use Rattle.translator.specs.Asked.{Placed, Numbered}
 use Rattle.translator_sizes.specs.PartLaws.{label_here, label_is}
 

@@ -9,8 +9,8 @@ use Rattle.translator_bytes.specs.declared.jumps.Under.{Under}
 use Rattle.translator_sizes.specs.Parts.{bytes_at, part_bytes}
 use Rattle.byte_writers.specs.Writes.{Room, Wrote}
 use Rattle.byte_writers.specs.WriteLaws.{room_less, room_as, room_behind, room_behind_two, wrote_after}
-use Rattle.translator_bytes.specs.LengthLaws.{length_zeros}
-use Rattle.translator_bytes.specs.JumpLaws.{pair_as}
+use Rattle.translator_bytes.proofs.LengthLaws.{length_zeros}
+use Rattle.translator_bytes.proofs.JumpLaws.{pair_as}
 use Rattle.translator_sizes.specs.Asked.{BlockSize}
 use Rattle.translator_sizes.specs.PartLaws.{part_size}
 

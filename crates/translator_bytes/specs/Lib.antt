@@ -1,7 +1,3 @@
 -- The bytes of a translation. Definitions: Bytes (what operations become), Writes (what the writers of a call are asked).
 pub mod Bytes
 pub mod Writes
--- Laws.
-pub mod ListLaws
-pub mod LengthLaws
-pub mod JumpLaws

@@ -14,12 +14,12 @@ use procedure_operations::numbers::VariableNumber;
 
 // What a block is translated under: the count of variables, the handler in force (0 for none), and two slots (0 for none): the one that a raise there binds first,
 // and the one in which a raised number goes on.
-#[derive(Drop)]
+#[derive(Clone, Copy)]
 pub struct Under {
     pub variables: u8,
     pub handler: u8,
     pub bound: u8,
-    pub numberSlot: u8,
+    pub number_slot: u8,
 }
 
 // n bytes of a slot, if any.
@@ -167,7 +167,7 @@ fn put_guarded_call(
     let t = v + 3;
     let size = jump_size(n as usize);
     let other = jump_size(v as usize);
-    let a = put_guarded_head(out, o, k, target, t, u.numberSlot);
+    let a = put_guarded_head(out, o, k, target, t, u.number_slot);
     let b = byte_writers::put_pair(out, a, size);
     let e = put_call_jump(file, at, out, b, g, k, t, n);
     let f = byte_writers::put_pair(out, e, other);
@@ -228,7 +228,7 @@ pub fn raise_size(u: Under) -> usize
 {
     let jump = jump_size(u.variables as usize);
     let first = size_if_any(u.bound, 6);
-    let last = size_if_any(u.numberSlot, 1);
+    let last = size_if_any(u.number_slot, 1);
     if u.handler == 0 {
         first + (2 + last)
     } else {
@@ -244,7 +244,7 @@ fn put_raise_end(out: &mut [u8], o: usize, base: usize, u: Under) -> usize
 {
     if u.handler == 0 {
         let a = byte_writers::put_two(out, o, 6, 1);
-        put_slot_if_any(out, a, u.numberSlot)
+        put_slot_if_any(out, a, u.number_slot)
     } else {
         put_label_jump(out, o, base, u.variables, u.handler)
     }

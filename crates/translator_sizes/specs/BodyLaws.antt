@@ -11,9 +11,9 @@ use Rattle.semantics.specs.Program.{Variable, Block, constant, copy, difference,
 use Rattle.semantics.specs.Code.{Slot, Expr, jump, handle, if_at_most, let_difference_or_raise}
 use Rattle.semantics.specs.Translation.{slot_of, slots_from, to_label, spare_slot, receiver_at, receiver_slot, parameter_slot, bind_raised, raise_code, code}
 use Rattle.target_file.specs.Writing.{slot_bytes, size, expr_bytes}
-use Rattle.target_file.specs.ReadsBackLaws.{bytes_length}
+use Rattle.target_file.proofs.ReadsBackLaws.{bytes_length}
 use Rattle.translator_bytes.specs.Bytes.{if_any, jump_head, label_jump, call_jump, plain_call, guarded_head, guarded_call, branch_bytes, raise_end, raise_bytes, raise_size, raise_value_bytes, difference_bytes, call_bytes}
-use Rattle.translator_bytes.specs.LengthLaws.{length_slots}
+use Rattle.translator_bytes.proofs.LengthLaws.{length_slots}
 use Rattle.translator_sizes.specs.Parts.{slot_byte, under_of, body_bytes}
 use Rattle.translator_sizes.specs.SizeLaws.{guarded_test, raise_size_lem}
 

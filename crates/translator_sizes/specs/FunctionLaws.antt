@@ -6,8 +6,8 @@ use Rattle.parsing.specs.Parser.{joined}
 use Rattle.semantics.specs.Program.{Function, function_of}
 use Rattle.semantics.specs.Code.{Target, Code, handle}
 use Rattle.semantics.specs.Translation.{block_target, targets, number, translate_function}
-use Rattle.semantics.specs.TranslationLaws.{length_translate_function}
-use Rattle.semantics.specs.ListLaws.{get_d_map_below}
+use Rattle.semantics.proofs.TranslationLaws.{length_translate_function}
+use Rattle.semantics.proofs.ListLaws.{get_d_map_below}
 use Rattle.procedure_file.specs.Check.{program_of}
 use Rattle.procedure_file.specs.Places.{no_labelled}
 use Rattle.target_file.specs.Writing.{target_bytes}

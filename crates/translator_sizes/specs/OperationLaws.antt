@@ -15,7 +15,7 @@ use Rattle.procedure_layout.specs.After.{after_of}
 use Rattle.procedure_file.specs.Check.{program_of}
 use Rattle.translator_bytes.specs.declared.jumps.Under.{Under}
 use Rattle.translator_bytes.specs.Bytes.{label_jump, branch_bytes, raise_bytes, raise_value_bytes, call_bytes, operation_bytes, operation_size}
-use Rattle.translator_bytes.specs.LengthLaws.{label_size}
+use Rattle.translator_bytes.proofs.LengthLaws.{label_size}
 use Rattle.translator_sizes.specs.Parts.{body_bytes, bytes_at}
 use Rattle.translator_sizes.specs.Asked.{OperationInFile, CountInRange}
 use Rattle.translator_sizes.specs.SizeLaws.{called_size, branch_size, raise_size_lem, raise_value_size_lem, difference_size}

@@ -12,16 +12,16 @@ use Rattle.procedure_file.specs.Check.{program_of}
 use Rattle.procedure_file.specs.Places.{start_of, block_of, handler_of}
 use Rattle.procedure_file.specs.FileInvariant.{FileInvariant}
 use Rattle.procedure_file.specs.Loaded.{Loaded}
-use Rattle.procedure_file.specs.LoadedLaws.{loaded_invariant}
+use Rattle.procedure_file.proofs.LoadedLaws.{loaded_invariant}
 use Rattle.target_file.specs.Writing.{size, expr_bytes, target_bytes}
 use Rattle.translator_bytes.specs.declared.jumps.Under.{Under}
 use Rattle.translator_bytes.specs.Bytes.{zeros}
 use Rattle.translator_sizes.specs.declared.Fields.{Fields}
 use Rattle.translator_sizes.specs.Parts.{under_of, body_bytes, bytes_at, part_bytes, by_label, fields_of, label_bytes}
 use Rattle.translator_sizes.specs.Asked.{OperationInFile, BlockSize, LabelSize}
-use Rattle.translator_bytes.specs.LengthLaws.{length_zeros}
+use Rattle.translator_bytes.proofs.LengthLaws.{length_zeros}
 use Rattle.translator_sizes.specs.BodyLaws.{body_is}
-use Rattle.target_file.specs.ReadsBackLaws.{bytes_length}
+use Rattle.target_file.proofs.ReadsBackLaws.{bytes_length}
 
 by_label_other : (l a b : ℕ) → (l ≡ 0 → ⊥) → b ≡ by_label l a b
 by_label_other zero a b h = absurd (h refl)

@@ -4,7 +4,7 @@ use Rattle.std.proofs.Common.{arith, ap, ◌∙◌, ne_eqb, length-append}
 use Rattle.parsing.specs.Bytes.{pair_bytes}
 use Rattle.translator_bytes.specs.declared.jumps.Under.{Under}
 use Rattle.translator_bytes.specs.Bytes.{if_any, size_if_any, label_jump, call_jump, plain_call, guarded_head, guarded_call, branch_bytes, raise_end, raise_end_size, raise_bytes, raise_size, raise_value_bytes, raise_value_size, difference_bytes, call_bytes, call_size}
-use Rattle.translator_bytes.specs.LengthLaws.{label_size, call_size_lem, any_size, head_size}
+use Rattle.translator_bytes.proofs.LengthLaws.{label_size, call_size_lem, any_size, head_size}
 
 -- A handler in force is not 0.
 pub guarded_test : (h : ℕ) → eqb (suc h) 0 ≡ false

@@ -6,7 +6,7 @@ use Rattle.parsing.specs.Fields.{version_of}
 use Rattle.semantics.specs.Program.{Function, Program, no_function, variables, function_of}
 use Rattle.semantics.specs.Translation.{last_slot}
 use Rattle.semantics.specs.SlotCount.{larger, slots_used}
-use Rattle.semantics.specs.SlotCountLaws.{larger_least}
+use Rattle.semantics.proofs.SlotCountLaws.{larger_least}
 use Rattle.procedure_file.specs.Check.{program_of}
 use Rattle.procedure_file.specs.FileInvariant.{FileInvariant}
 use Rattle.translator_sizes.specs.UnderLaws.{few}

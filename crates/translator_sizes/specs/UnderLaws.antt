@@ -7,7 +7,7 @@ use Rattle.std.proofs.Math.Option.{Option, none, some}
 use Rattle.parsing.specs.Fields.{version_of}
 use Rattle.semantics.specs.Program.{Variable, Function, no_labelled, no_function, variables, function_of}
 use Rattle.semantics.specs.WellFormed.{MayName, WellFormedLabelled, WellFormedFunction}
-use Rattle.semantics.specs.ListLaws.{all_get_d}
+use Rattle.semantics.proofs.ListLaws.{all_get_d}
 use Rattle.semantics.specs.Translation.{slot_of, spare_slot, receiver_in, receiver_at, receiver_slot, parameter_slot}
 use Rattle.procedure_names.specs.Writing.{receiver_byte}
 use Rattle.procedure_file.specs.Check.{program_of}

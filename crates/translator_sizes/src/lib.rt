@@ -27,7 +27,7 @@ fn call_size(u: Under, n: u8) -> usize
 {
     let inner = jumps::jump_size(n as usize);
     let other = jumps::jump_size(u.variables as usize);
-    let number = jumps::size_if_any(u.numberSlot, 1);
+    let number = jumps::size_if_any(u.number_slot, 1);
     if u.handler == 0 {
         5 + inner
     } else {
@@ -145,12 +145,12 @@ fn under_of(file: &[u8], starts: &[u16; 2048], f: usize, v: u8, h: u8) -> Under
     let spare = spare_slot(file, v);
     let receiver = receiver_slot(file, starts, f, h);
     let bound = by_zero(h, spare, receiver);
-    let numberSlot = by_zero(receiver, spare, receiver);
+    let number_slot = by_zero(receiver, spare, receiver);
     Under {
         variables: v,
         handler: h,
         bound,
-        numberSlot,
+        number_slot,
     }
 }
 

@@ -1,0 +1,4 @@
+-- Laws.
+pub mod WalkLaws
+pub mod LayoutLaws
+pub mod BlockLaws

@@ -1,0 +1,2 @@
+-- The laws that the functions cite.
+pub mod LookupLaws

@@ -1,0 +1,4 @@
+-- Laws.
+pub mod TellsLaws
+pub mod CallLaws
+pub mod OutputLaws

@@ -1,0 +1,4 @@
+-- Laws.
+pub mod ExpressionLaws
+pub mod PartLaws
+pub mod EndLaws

@@ -1,0 +1,16 @@
+use Rattle.target_tags.specs.TagLaws.{width_bound, handle_cut, handle_in}
+use native.Mathlib.Omega.{arith}
+use mathlib.Core.Path.{◌∙◌}
+use Rattle.parsing.specs.Fields.{version_of}
+use Rattle.target_tags.proofs.tag.handle_at.Goals as goal
+
+pub overflow_add-next : goal.overflow_add-next
+overflow_add-next c = omega (arith, c.number_width.ensures, width_bound (version_of c.args.file.now))
+
+pub returns-then-file-next : goal.returns-then-file-next
+returns-then-file-next c =
+    c.cut.ensures ∙ handle_cut _ _ _ c.number_width.ensures c.if-file-next.true
+
+pub returns : goal.returns
+returns c =
+    handle_in _ _ _ _ _ c.number_width.ensures (omega arith) c.byte_number-handler.ensures.0 c.number_slot_at-value.ensures

@@ -1,0 +1,4 @@
+-- Laws.
+pub mod ListLaws
+pub mod LengthLaws
+pub mod JumpLaws
