@@ -14,7 +14,7 @@ use Rattle.procedure_operations.specs.declared.operation.Operation.TheVariants.{
 use Rattle.procedure_layout.specs.declared.layout.After.TheVariants.{Onward}
 use Rattle.procedure_operations.specs.Operation.{operation_at}
 use Rattle.procedure_operations.specs.Ranges.{NumbersInRange}
-use Rattle.procedure_layout.specs.Layout.{arguments_at, block}
+use Rattle.procedure_layout.specs.Layout.{arguments_at}
 use Rattle.procedure_names.specs.Writing.{block_bytes}
 use Rattle.procedure_file.specs.Check.{check_of, program_of}
 use Rattle.procedure_layout.specs.Rest.{rest_from, rest_at}

@@ -94,12 +94,12 @@ fn print_answer<W: Write>(
             if all_are(frames, UNTOUCHED) && untouched(out) && all_are(records, UNTOUCHED) {
                 say(writer, b" kept")?;
             }
-            say(writer, b"\n")?;
+            say(writer, b"\n")
         }
         Checked::Accepted => {
             print_translation(writer, out, a.target)?;
             print_bench(writer, a.bench, version, frames, depth)?;
-            print_controller(writer, a.controller, version, records, depth)?;
+            print_controller(writer, a.controller, version, records, depth)
         }
     }
 }

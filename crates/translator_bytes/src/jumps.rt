@@ -14,7 +14,7 @@ use procedure_operations::numbers::VariableNumber;
 
 // What a block is translated under: the count of variables, the handler in force (0 for none), and two slots (0 for none): the one that a raise there binds first,
 // and the one in which a raised number goes on.
-#[derive(Drop)]
+#[derive(Clone, Copy)]
 pub struct Under {
     pub variables: u8,
     pub handler: u8,
