@@ -2,7 +2,7 @@
 
     python3 tools/run_file.py FILE ARGUMENT.. [--depth N] [--budget N]
 
-Puts the header of an input of `both` (docs/FORMAT.md) before the file, and prints what `both` prints. `rt check both` makes the program."""
+Puts the header of an input of `both` (docs/FORMAT.md) before the file, and prints what `both` prints. `rt run` in crates/both makes the program."""
 import argparse
 import os
 import subprocess
