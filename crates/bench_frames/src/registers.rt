@@ -2,7 +2,7 @@
 use runs::End;
 
 // Where the machine stands: function, handler in force (0 for none), offset of the next operation, frames waiting, extras so far.
-#[derive(Drop)]
+#[derive(Clone, Copy)]
 pub struct Regs {
     pub function: usize,
     pub handler: usize,
