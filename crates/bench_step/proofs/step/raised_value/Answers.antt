@@ -1,7 +1,5 @@
-use native.Mathlib.Omega.{arith}
 use mir.Facts.{to_z-of_z}
 use mir.Syntax.{w32}
-use Rattle.bench_frames.specs.StateLaws.{in_range_lem}
 use Rattle.bench_step.specs.StepLaws.{value_raises}
 use borrow.Author.Rules.{rules}
 use Rattle.bench_step.proofs.step.raised_value.Goals as goal
