@@ -8,7 +8,7 @@ use borrow.Author.Tests.{le-leb, lt-leb}
 use Rattle.std.proofs.Math.ListN.{replicate}
 use Rattle.std.proofs.lemmas.List.{length-map, length-replicate}
 use Rattle.std.proofs.Math.Seq.{take-length}
-use Rattle.semantics.specs.Program.{Block, variables, no_function}
+use Rattle.semantics.specs.Program.{Block, no_function}
 use Rattle.semantics.specs.Run.{next, too_deep}
 use Rattle.semantics.specs.Bench.{Frame, frame, state, begun, step}
 use Rattle.semantics.specs.WellFormed.{All}

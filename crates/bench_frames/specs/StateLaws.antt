@@ -2,7 +2,7 @@
 use Rattle.std.specs.Prelude.{ℕ, zero, suc, ◌+◌, ◌*◌, ◌≤◌, ◌<◌, ◌≡◌, refl, List, ◌∷◌, ℤ, length, take, drop}
 use Rattle.std.proofs.Common.{arith, sym, ◌∙◌, subst, take_at, take-take}
 use Rattle.std.proofs.Math.Path.{ap}
-use Rattle.semantics.specs.Program.{Block, Program, variables}
+use Rattle.semantics.specs.Program.{Block, Program}
 use Rattle.semantics.specs.Run.{next}
 use Rattle.semantics.specs.Bench.{Frame, frame, State, state, waiting, step}
 use Rattle.semantics.specs.WellFormed.{WellFormedPlace}
