@@ -2,7 +2,7 @@
 
     python3 tools/run_file.py FILE ARGUMENT.. [--depth N] [--budget N]
 
-Puts the header of an input of `both` (docs/FORMAT.md) before the file, and prints what `both` prints. `rt check both` makes the program."""
+Puts the header of an input of `both` (docs/FORMAT.md) before the file, and prints what `both` prints. `rt run` in crates/both makes the program."""
 import argparse
 import os
 import subprocess
@@ -10,7 +10,7 @@ import sys
 
 from records import GREATEST, LEAST, header
 
-PROGRAM = os.path.join(os.path.dirname(os.path.abspath(__file__)), "..", "target", "bin", "both")
+PROGRAM = os.path.join(os.path.dirname(os.path.abspath(__file__)), "..", "crates", "both", "out", "both")
 
 
 def number(least, greatest):
@@ -33,7 +33,7 @@ def main():
     if len(given.arguments) > 255:
         parser.error("more than 255 arguments")
     if not os.path.exists(PROGRAM):
-        parser.error("target/bin/both is missing: run `rt check both` first")
+        parser.error("crates/both/out/both is missing: run `rt run < stdin` in crates/both first")
     try:
         with open(given.file, "rb") as f:
             procedure = f.read()

@@ -116,7 +116,7 @@ pub fn sides_loaded(
 ) -> Sides
     requires { Loaded file.now starts.now }
     ensures tells { meaning result ≡ sides_tell file.now f arguments.now depth budget (length frames.old) (length room.old) (length records.old) }
-    ensures memory { SidesMemory file.now f arguments.now depth budget result (record { frames = frames.entry.now; room = room.old; records = records.old }) (record { frames = frames.exit.now; room = room.new; records = records.new }) }
+    ensures memory { SidesMemory file.now f arguments.now depth budget result (record { frames = frames.old; room = room.old; records = records.old }) (record { frames = frames.new; room = room.new; records = records.new }) }
     ensures answer { RefusedBy refused_sides (sides_verdict file.now f (length arguments.now) depth (length frames.old) (length room.old) (length records.old)) result }
 {
     let functions = functions_of(file);
@@ -168,7 +168,7 @@ pub fn side_by_side(
     records: &mut [i32],
 ) -> Sides
     ensures tells { meaning result ≡ sides_tell file.now f arguments.now depth budget (length frames.old) (length room.old) (length records.old) }
-    ensures memory { SidesMemory file.now f arguments.now depth budget result (record { frames = frames.entry.now; room = room.old; records = records.old }) (record { frames = frames.exit.now; room = room.new; records = records.new }) }
+    ensures memory { SidesMemory file.now f arguments.now depth budget result (record { frames = frames.old; room = room.old; records = records.old }) (record { frames = frames.new; room = room.new; records = records.new }) }
     ensures answer { RefusedBy refused_sides (sides_verdict file.now f (length arguments.now) depth (length frames.old) (length room.old) (length records.old)) result }
 {
     let mut starts = [0u16; 2048];

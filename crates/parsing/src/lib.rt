@@ -9,7 +9,7 @@ ghost use Rattle.parsing.specs.Parser.{past_of, or_else, refused_unless, verdict
 ghost use Rattle.parsing.specs.Fields.{version_of, value_of, counted, count, ended};
 
 // A refusal is a number and a place.
-#[derive(Drop)]
+#[derive(Clone, Copy)]
 pub struct Refusal {
     pub number: u8,
     pub place: usize,

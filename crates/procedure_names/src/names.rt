@@ -242,7 +242,7 @@ pub fn block_named(
             }
             Checked::Accepted => {}
         }
-        match layout::after_of(operation::operation_at(file, at)) {
+        match layout::after_of(o) {
             After::Onward(next) => {
                 at = next;
             }

@@ -6,7 +6,7 @@ ghost use Rattle.procedure_operations.specs.Operation.{operation_at, constant_at
 use parsing::{Refusal, refusals};
 
 // An operation as it stands in the file, with the offset past it. Its names are not judged here.
-#[derive(Drop)]
+#[derive(Clone, Copy)]
 pub enum Operation {
     Constant {
         target: u8,

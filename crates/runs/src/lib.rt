@@ -7,14 +7,14 @@ ghost use Rattle.semantics.specs.Run.{one_more_if_deep};
 ghost use Rattle.runs.specs.Stopped.{stopped_as, in_use};
 
 // How a run ends: with a value, or uncaught with the number raised.
-#[derive(Drop)]
+#[derive(Clone, Copy)]
 pub enum End {
     Value(i32),
     Uncaught(i32),
 }
 
 // How a run stopped.
-#[derive(Drop)]
+#[derive(Clone, Copy)]
 pub enum Stopped {
     Ended(End),
     Spent,

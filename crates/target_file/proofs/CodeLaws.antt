@@ -12,7 +12,7 @@ use Rattle.semantics.specs.WellFormed.{All}
 use Rattle.semantics.specs.SlotRules.{KeepsRules}
 use Rattle.semantics.specs.SlotRules as rules
 use Rattle.parsing.specs.Parser.{Parsed, read, and_then, many}
-use Rattle.parsing.specs.Fields.{IsVersion, version_of, byte, count, ended}
+use Rattle.parsing.specs.Fields.{IsVersion, version_of, count, ended}
 use Rattle.parsing.specs.ParserLaws.{sequence, read_count, ReadMany, none, one, read_many, byte_in}
 use Rattle.parsing.specs.BytesAtLaws.{BytesAt, read_ended}
 use Rattle.parsing.specs.ReadsLaws.{reads_head, reads_ended}

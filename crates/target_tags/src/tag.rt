@@ -16,14 +16,14 @@ pub const FILE_LIMIT: usize = 65535;
 pub const MAX_PARAMETERS: usize = 32;
 
 // The slot of a number raised, which files of version 2 have: the value slot of tag 6, the handler parameter slot of tag 9.
-#[derive(Drop)]
+#[derive(Clone, Copy)]
 pub enum NumberSlot {
     At(usize),
     Absent,
 }
 
 // A node as it stands in the file: its fields, and the offset past them. Its names are not judged here.
-#[derive(Drop)]
+#[derive(Clone, Copy)]
 pub enum Tag {
     Constant {
         slot: usize,

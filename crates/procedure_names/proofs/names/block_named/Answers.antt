@@ -14,23 +14,23 @@ returns-in-Refused c =
 pub loop-r-smaller : goal.loop-r-smaller
 loop-r-smaller c =
     let m = onward_moves c.args.file.now c.loop-r.at c.in-Onward.next
-    (ap after_of (sym c.operation_at.ensures) ∙ sym c.after_of.ensures ∙ c.in-Onward.is) in
+    (ap after_of (sym c.operation_at-o.ensures) ∙ sym c.after_of.ensures ∙ c.in-Onward.is) in
     omega (arith, m.0, m.1)
 
 pub loop-r-preserved : goal.loop-r-preserved
 loop-r-preserved c =
     turn_on c.args.params.now c.args.variables c.args.labels c.args.file.now c.loop-r.at c.operation_at-o.result
     c.operation_named.result c.operation_at-o.ensures c.operation_named.ensures c.in-Onward.next _
-    c.in-Accepted.is (c.after_of.ensures ∙ ap after_of (c.operation_at.ensures ∙ sym c.operation_at-o.ensures)) c.in-Onward.is ∙ c.loop-r.invariant
+    c.in-Accepted.is c.after_of.ensures c.in-Onward.is ∙ c.loop-r.invariant
 
 pub returns-in-Ended : goal.returns-in-Ended
 returns-in-Ended c =
     turn_last c.args.params.now c.args.variables c.args.labels c.args.file.now c.loop-r.at c.operation_at-o.result
     c.operation_named.result c.operation_at-o.ensures c.operation_named.ensures _ c.in-Accepted.is
-    (c.after_of.ensures ∙ ap after_of (c.operation_at.ensures ∙ sym c.operation_at-o.ensures)) (λ next w. not_ended _ _ next c.in-Ended.is w) ∙ c.loop-r.invariant
+    c.after_of.ensures (λ next w. not_ended _ _ next c.in-Ended.is w) ∙ c.loop-r.invariant
 
 pub returns-in-Halted : goal.returns-in-Halted
 returns-in-Halted c =
     turn_last c.args.params.now c.args.variables c.args.labels c.args.file.now c.loop-r.at c.operation_at-o.result
     c.operation_named.result c.operation_at-o.ensures c.operation_named.ensures _ c.in-Accepted.is
-    (c.after_of.ensures ∙ ap after_of (c.operation_at.ensures ∙ sym c.operation_at-o.ensures)) (λ next w. not_halted _ _ next c.in-Halted.is w) ∙ c.loop-r.invariant
+    c.after_of.ensures (λ next w. not_halted _ _ next c.in-Halted.is w) ∙ c.loop-r.invariant

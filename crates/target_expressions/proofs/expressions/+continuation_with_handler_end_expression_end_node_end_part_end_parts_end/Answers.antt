@@ -1,0 +1,169 @@
+use Rattle.std.specs.Prelude.{ℕ, ◌≡◌, ◌≢◌, Bool, List}
+use Rattle.std.proofs.Math.Path.{refl, ap}
+use Rattle.std.proofs.Common.{sym, ◌∙◌, arith}
+use Rattle.parsing.specs.Fields.{version_of}
+use Rattle.target_tags.specs.TagLaws.{width_bound}
+use Rattle.target_tags.specs.declared.tag.NumberSlot.{NumberSlot}
+use Rattle.target_tags.specs.declared.tag.Tag.{Tag}
+use Rattle.target_tags.specs.declared.tag.Tag.TheVariants.{Constant, Copy, Difference, Jump, Resume, Handle, Branch, Continuation, ContinuationWithHandler, DifferenceOrRaise, Refused}
+use Rattle.target_parts.specs.Parts.{fields_end}
+use Rattle.target_parts.specs.PartsLaws.{level_accepted}
+use Rattle.target_names.specs.Names.{judged}
+use Rattle.target_expressions.specs.Ends.{parts_end}
+use Rattle.target_expressions.proofs.ExpressionLaws.{node_fields}
+use Rattle.target_expressions.proofs.EndLaws.{part_refused, part_in, part_past, rest_stopped, handler_outside, handler_in, node_right, node_wrong, expression_onward, expression_bound, expression_ended, expression_halted, onward_moves, parts_by_tag, continuation_on}
+use Rattle.target_expressions.proofs.expressions.+continuation_with_handler_end_expression_end_node_end_part_end_parts_end.Goals as goal
+
+-- A node that is none of tags 7 to 10.
+no_parts_by : (names : Bool) (ps s : List ℕ) (level : ℕ) (ks : List ℕ) (at : ℕ) (t : Tag)
+    → ((y z n next : ℕ) → t ≢ Branch y z n next) → ((x p n next : ℕ) → t ≢ Continuation x p n next)
+    → ((x p h : ℕ) (q : NumberSlot) (n next : ℕ) → t ≢ ContinuationWithHandler x p h q n next) → ((x y z n next : ℕ) → t ≢ DifferenceOrRaise x y z n next)
+    → fields_end t ≡ parts_end names ps s level ks at t
+unfolding parts_end fields_end
+no_parts_by names ps s level ks at (Constant x i next) a b d e = refl
+no_parts_by names ps s level ks at (Copy x y next) a b d e = refl
+no_parts_by names ps s level ks at (Difference x y z next) a b d e = refl
+no_parts_by names ps s level ks at (Jump g k h n next) a b d e = refl
+no_parts_by names ps s level ks at (Resume k y next) a b d e = refl
+no_parts_by names ps s level ks at (Handle h y next) a b d e = refl
+no_parts_by names ps s level ks at (Branch y z n next) a b d e = absurd (a y z n next refl)
+no_parts_by names ps s level ks at (Continuation x p n next) a b d e = absurd (b x p n next refl)
+no_parts_by names ps s level ks at (ContinuationWithHandler x p h q n next) a b d e = absurd (d x p h q n next refl)
+no_parts_by names ps s level ks at (DifferenceOrRaise x y z n next) a b d e = absurd (e x y z n next refl)
+no_parts_by names ps s level ks at (Refused r) a b d e = refl
+
+pub continuation_with_handler_end-overflow_add-place : goal.continuation_with_handler_end-overflow_add-place
+continuation_with_handler_end-overflow_add-place t c =
+    omega (arith, c.number_width.ensures, width_bound (version_of c.args.file.now))
+
+pub continuation_with_handler_end-overflow_add-middle : goal.continuation_with_handler_end-overflow_add-middle
+continuation_with_handler_end-overflow_add-middle t c =
+    let w = part_past _ _ _ _ _ _ _ _ _ (sym c.part_end.ensures ∙ c.in-Past.is) in
+    omega (arith, w.inside)
+
+pub continuation_with_handler_end-part_end-requires-in-Is : goal.continuation_with_handler_end-part_end-requires-in-Is
+continuation_with_handler_end-part_end-requires-in-Is t c =
+    let w = part_past _ _ _ _ _ _ _ _ _ (sym c.part_end.ensures ∙ c.in-Past.is) in
+    let q = c.decreases in
+    (omega (arith, q, w.fills), c.requires.file_len_bound)
+
+pub continuation_with_handler_end-returns-in-Stopped : goal.continuation_with_handler_end-returns-in-Stopped
+continuation_with_handler_end-returns-in-Stopped t c =
+    rest_stopped _ _ _ _ _ _ _ _ _ _ _ _ _ _ c.number_width.ensures c.bind.ensures c.bind-rest.ensures _ (sym c.part_end.ensures ∙ c.in-Stopped.is)
+
+pub continuation_with_handler_end-returns-in-Outside : goal.continuation_with_handler_end-returns-in-Outside
+continuation_with_handler_end-returns-in-Outside t c =
+    handler_outside _ _ _ _ _ _ _ _ _ _ _ _ _ _ c.number_width.ensures c.bind.ensures c.bind-rest.ensures _ (sym c.part_end.ensures ∙ c.in-Past.is) _
+    (sym c.size_at.ensures ∙ c.in-Outside.is)
+
+pub continuation_with_handler_end-returns-in-Is : goal.continuation_with_handler_end-returns-in-Is
+continuation_with_handler_end-returns-in-Is t c =
+    handler_in _ _ _ _ _ _ _ _ _ _ _ _ _ _ c.number_width.ensures c.bind.ensures c.bind-rest.ensures _ (sym c.part_end.ensures ∙ c.in-Past.is) _ _ c.bind_number-caught.ensures
+    (sym c.size_at.ensures ∙ c.in-Is.is) c.part_end-in-Is.ensures
+
+pub expression_end-loop-next-smaller-in-Onward : goal.expression_end-loop-next-smaller-in-Onward
+expression_end-loop-next-smaller-in-Onward t c =
+    let m = onward_moves _ _ _ _ _ _ c.tag_at-node.ensures c.node_end.ensures _ c.in-Onward.is refl in
+    omega (arith, m.here, m.forward)
+
+pub expression_end-loop-next-preserved-in-Onward : goal.expression_end-loop-next-preserved-in-Onward
+expression_end-loop-next-preserved-in-Onward t c =
+    let m = onward_moves _ _ _ _ _ _ c.tag_at-node.ensures c.node_end.ensures _ c.in-Onward.is refl in
+    let v = c.loop-next.invariant in
+    (omega (arith, v.0, m.forward), m.inside, expression_onward _ _ _ _ _ _ c.tag_at-node.ensures c.node_end.ensures _ c.in-Onward.is ∙ v.2)
+
+pub expression_end-loop-next-smaller : goal.expression_end-loop-next-smaller
+expression_end-loop-next-smaller t c =
+    let m = onward_moves _ _ _ _ _ _ c.tag_at-node.ensures c.node_end.ensures _ c.in-Bound.is refl in
+    omega (arith, m.here, m.forward)
+
+pub expression_end-loop-next-preserved : goal.expression_end-loop-next-preserved
+expression_end-loop-next-preserved t c =
+    let m = onward_moves _ _ _ _ _ _ c.tag_at-node.ensures c.node_end.ensures _ c.in-Bound.is refl in
+    let v = c.loop-next.invariant in
+    (omega (arith, v.0, m.forward), m.inside, expression_bound _ _ _ _ _ _ c.tag_at-node.ensures c.node_end.ensures _ _ _ c.in-Bound.is c.bind-tail.ensures ∙ v.2)
+
+pub expression_end-returns-in-Ended : goal.expression_end-returns-in-Ended
+expression_end-returns-in-Ended t c =
+    expression_ended _ _ _ _ _ _ c.tag_at-node.ensures c.node_end.ensures _ c.in-Ended.is ∙ c.loop-next.invariant.2
+
+pub expression_end-returns-in-Halted : goal.expression_end-returns-in-Halted
+expression_end-returns-in-Halted t c =
+    expression_halted _ _ _ _ _ _ c.tag_at-node.ensures c.node_end.ensures _ c.in-Halted.is ∙ c.loop-next.invariant.2
+
+pub node_end-returns-in-Accepted : goal.node_end-returns-in-Accepted
+node_end-returns-in-Accepted t c =
+    let again = c.tag_at.ensures ∙ sym c.requires.node_at.is in
+    let once_more = c.tag_at-in-Accepted.ensures ∙ sym c.requires.node_at.is in
+    node_right _ _ _ _ _ _ _ (c.judge.ensures ∙ ap (judged c.args.names c.args.params.now c.args.kinds c.args.file.now c.args.at) again) c.in-Accepted.is c.follows.ensures
+    (c.parts_end-end.ensures ∙ ap (parts_end c.args.names c.args.params.now c.args.file.now c.args.level c.args.kinds c.args.at) once_more)
+
+pub node_end-returns-in-Refused : goal.node_end-returns-in-Refused
+node_end-returns-in-Refused t c =
+    let again = c.tag_at.ensures ∙ sym c.requires.node_at.is in
+    node_wrong _ _ _ _ _ _ _ (c.judge.ensures ∙ ap (judged c.args.names c.args.params.now c.args.kinds c.args.file.now c.args.at) again) _ c.in-Refused.is
+
+pub part_end-overflow_add-level : goal.part_end-overflow_add-level
+part_end-overflow_add-level t c =
+    let l = level_accepted _ _ _ c.level_checked.ensures c.in-Accepted.is in
+    omega (arith, l.1)
+
+pub part_end-expression_end-part-requires : goal.part_end-expression_end-part-requires
+part_end-expression_end-part-requires t c =
+    let l = level_accepted _ _ _ c.level_checked.ensures c.in-Accepted.is in
+    let q = c.decreases in
+    (omega (arith, q), (c.requires, omega (arith, l.0)))
+
+pub part_end-returns-in-Refused : goal.part_end-returns-in-Refused
+part_end-returns-in-Refused t c =
+    part_refused _ _ _ _ _ _ _ _ c.level_checked.ensures _ c.in-Refused.is
+
+pub part_end-returns-in-Accepted : goal.part_end-returns-in-Accepted
+part_end-returns-in-Accepted t c =
+    c.measured_end.ensures ∙ part_in _ _ _ _ _ _ _ _ c.level_checked.ensures c.in-Accepted.is c.expression_end-part.ensures
+
+pub parts_end-part_end-requires : goal.parts_end-part_end-requires
+parts_end-part_end-requires t c =
+    let q = c.decreases in
+    let f = node_fields _ _ _ (sym c.in-Branch.is ∙ c.requires.node_at.is) in
+    (omega (arith, q, f.here, f.forward, f.inside), c.requires.file_len_bound)
+
+pub parts_end-part_end-requires-in-Continuation : goal.parts_end-part_end-requires-in-Continuation
+parts_end-part_end-requires-in-Continuation t c =
+    let q = c.decreases in
+    let f = node_fields _ _ _ (sym c.in-Continuation.is ∙ c.requires.node_at.is) in
+    (omega (arith, q, f.here, f.forward, f.inside), c.requires.file_len_bound)
+
+pub parts_end-continuation_with_handler_end-requires : goal.parts_end-continuation_with_handler_end-requires
+parts_end-continuation_with_handler_end-requires t c =
+    let q = c.decreases in
+    let f = node_fields _ _ _ (sym c.in-ContinuationWithHandler.is ∙ c.requires.node_at.is) in
+    (omega (arith, q), (c.requires.file_len_bound, (f.forward, f.inside)))
+
+pub parts_end-part_end-requires-in-DifferenceOrRaise :
+    goal.parts_end-part_end-requires-in-DifferenceOrRaise
+parts_end-part_end-requires-in-DifferenceOrRaise t c =
+    let q = c.decreases in
+    let f = node_fields _ _ _ (sym c.in-DifferenceOrRaise.is ∙ c.requires.node_at.is) in
+    (omega (arith, q, f.here, f.forward, f.inside), c.requires.file_len_bound)
+
+pub parts_end-returns-in-Branch : goal.parts_end-returns-in-Branch
+unfolding parts_end
+parts_end-returns-in-Branch t c = parts_by_tag _ _ _ _ _ _ c.in-Branch.is c.part_end.ensures
+
+pub parts_end-returns-in-Continuation : goal.parts_end-returns-in-Continuation
+parts_end-returns-in-Continuation t c =
+    continuation_on _ _ _ _ _ _ _ c.in-Continuation.is c.bind-rest.ensures c.part_end-in-Continuation.ensures
+
+pub parts_end-returns-in-ContinuationWithHandler : goal.parts_end-returns-in-ContinuationWithHandler
+unfolding parts_end
+parts_end-returns-in-ContinuationWithHandler t c = parts_by_tag _ _ _ _ _ _ c.in-ContinuationWithHandler.is c.continuation_with_handler_end.ensures
+
+pub parts_end-returns-in-DifferenceOrRaise : goal.parts_end-returns-in-DifferenceOrRaise
+unfolding parts_end
+parts_end-returns-in-DifferenceOrRaise t c = parts_by_tag _ _ _ _ _ _ c.in-DifferenceOrRaise.is c.part_end-in-DifferenceOrRaise.ensures
+
+pub parts_end-returns-in_default : goal.parts_end-returns-in_default
+parts_end-returns-in_default t c =
+    let r = c.in_default in
+    c.fields_end.ensures ∙ no_parts_by _ _ _ _ _ _ _ r.not-Branch r.not-Continuation r.not-ContinuationWithHandler r.not-DifferenceOrRaise
