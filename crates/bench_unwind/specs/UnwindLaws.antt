@@ -11,7 +11,7 @@ use Rattle.std.proofs.Math.Option.{Option, none, some}
 use Rattle.std.proofs.Math.IntN.{ℤ}
 use Rattle.std.proofs.Math.ListN.{length, take}
 use Rattle.std.proofs.Math.Seq.{take-set-lt}
-use Rattle.semantics.specs.Program.{Variable, Block, Program, variables}
+use Rattle.semantics.specs.Program.{Variable, Block, Program}
 use Rattle.semantics.specs.Run.{uncaught, next, end}
 use Rattle.semantics.specs.Bench.{Frame, frame, state, returned, enter_by_raise, unwound, raised, step}
 use Rattle.semantics.specs.WellFormed.{All, IsLabel, WellFormedFrame}
