@@ -10,7 +10,7 @@ use Rattle.parsing.specs.Parser.{joined}
 use Rattle.parsing.specs.ParserLaws.{joined_append}
 use Rattle.parsing.specs.Bytes.{pair_bytes}
 use Rattle.parsing.specs.Fields.{version_of}
-use Rattle.semantics.specs.Program.{Function, Program, variables, function_of, no_function}
+use Rattle.semantics.specs.Program.{Function, Program, function_of, no_function}
 use Rattle.semantics.specs.Translation.{targets, number, translate_function, translate_from, translate}
 use Rattle.semantics.specs.Controller.{code_version}
 use Rattle.semantics.proofs.TranslationLaws.{length_translate_function}
