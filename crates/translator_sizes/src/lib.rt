@@ -86,7 +86,7 @@ pub fn block_size(file: &[u8], u: Under, start: usize) -> usize
     loop {
         let x = operation_at(file, at);
         n += operation_size(u, x);
-        match after_of(operation_at(file, at)) {
+        match after_of(x) {
             After::Onward(next) => {
                 at = next;
             }
