@@ -66,9 +66,9 @@ fn node_end(
     requires node_at { NodeAt file.now at node }
     ensures { result ≡ node_end names params.now file.now level kinds at node }
 {
-    match names::judge(names, file, params, kinds, at, tag::tag_at(file, at)) {
+    match names::judge(names, file, params, kinds, at, node) {
         Checked::Accepted => {
-            let end = parts_end(file, params, names, level, kinds, at, tag::tag_at(file, at));
+            let end = parts_end(file, params, names, level, kinds, at, node);
             parts::follows(node, end)
         }
         Checked::Refused(r) => After::Halted(r),

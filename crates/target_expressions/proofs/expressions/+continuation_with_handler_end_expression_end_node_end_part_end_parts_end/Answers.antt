@@ -1,5 +1,5 @@
 use Rattle.std.specs.Prelude.{ℕ, ◌≡◌, ◌≢◌, Bool, List}
-use Rattle.std.proofs.Math.Path.{refl, ap}
+use Rattle.std.proofs.Math.Path.{refl}
 use Rattle.std.proofs.Common.{sym, ◌∙◌, arith}
 use Rattle.parsing.specs.Fields.{version_of}
 use Rattle.target_tags.specs.TagLaws.{width_bound}
@@ -8,7 +8,6 @@ use Rattle.target_tags.specs.declared.tag.Tag.{Tag}
 use Rattle.target_tags.specs.declared.tag.Tag.TheVariants.{Constant, Copy, Difference, Jump, Resume, Handle, Branch, Continuation, ContinuationWithHandler, DifferenceOrRaise, Refused}
 use Rattle.target_parts.specs.Parts.{fields_end}
 use Rattle.target_parts.specs.PartsLaws.{level_accepted}
-use Rattle.target_names.specs.Names.{judged}
 use Rattle.target_expressions.specs.Ends.{parts_end}
 use Rattle.target_expressions.proofs.ExpressionLaws.{node_fields}
 use Rattle.target_expressions.proofs.EndLaws.{part_refused, part_in, part_past, rest_stopped, handler_outside, handler_in, node_right, node_wrong, expression_onward, expression_bound, expression_ended, expression_halted, onward_moves, parts_by_tag, continuation_on}
@@ -93,15 +92,10 @@ expression_end-returns-in-Halted t c =
 
 pub node_end-returns-in-Accepted : goal.node_end-returns-in-Accepted
 node_end-returns-in-Accepted t c =
-    let again = c.tag_at.ensures ∙ sym c.requires.node_at.is in
-    let once_more = c.tag_at-in-Accepted.ensures ∙ sym c.requires.node_at.is in
-    node_right _ _ _ _ _ _ _ (c.judge.ensures ∙ ap (judged c.args.names c.args.params.now c.args.kinds c.args.file.now c.args.at) again) c.in-Accepted.is c.follows.ensures
-    (c.parts_end-end.ensures ∙ ap (parts_end c.args.names c.args.params.now c.args.file.now c.args.level c.args.kinds c.args.at) once_more)
+    node_right _ _ _ _ _ _ _ c.judge.ensures c.in-Accepted.is c.follows.ensures c.parts_end-end.ensures
 
 pub node_end-returns-in-Refused : goal.node_end-returns-in-Refused
-node_end-returns-in-Refused t c =
-    let again = c.tag_at.ensures ∙ sym c.requires.node_at.is in
-    node_wrong _ _ _ _ _ _ _ (c.judge.ensures ∙ ap (judged c.args.names c.args.params.now c.args.kinds c.args.file.now c.args.at) again) _ c.in-Refused.is
+node_end-returns-in-Refused t c = node_wrong _ _ _ _ _ _ _ c.judge.ensures _ c.in-Refused.is
 
 pub part_end-overflow_add-level : goal.part_end-overflow_add-level
 part_end-overflow_add-level t c =
