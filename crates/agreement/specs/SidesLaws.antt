@@ -33,7 +33,7 @@ use Rattle.controller.specs.Published as Controller
 use Rattle.controller_records.specs.Steps.{SlotsKept}
 use Rattle.agreement.specs.declared.Sides.{Sides}
 use Rattle.agreement.specs.Statement.{entry_of, controller_budget, Claim}
-use Rattle.agreement.specs.Sides.{call_verdict, sides_verdict, SidesSummary, summary_of, controller_run, runs_summary, sides_tell, Memory, Ran, refused_sides, CallFits, MachinesRan}
+use Rattle.agreement.specs.Sides.{call_verdict, sides_verdict, summary_of, controller_run, runs_summary, sides_tell, Memory, Ran, refused_sides, CallFits, MachinesRan}
 use Rattle.agreement.specs.Theorem.{few_steps, translation_slots, ran_alike, stops_match, files_agree}
 
 one_at_most : {S : Type 0} (o : Stop S) → one_more_if_deep o ≤ 1
