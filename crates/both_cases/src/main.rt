@@ -8,7 +8,7 @@ use case_io::print::say;
 use casts::pair;
 use report::report;
 use std::io;
-use std::io::{BufWriter, Read, Write};
+use std::io::{Read, Write};
 
 // The text of one input.
 fn run_case<W: Write>(writer: &mut W, input: &[u8]) -> io::Result<()> {
@@ -35,11 +35,11 @@ fn run_record<R: Read, W: Write>(reader: &mut R, writer: &mut W) -> io::Result<b
 
 fn main(rt: HostRuntime) -> io::Result<()> {
     let mut reader = rt.stdin();
-    let mut writer = BufWriter::new(rt.alloc(), rt.stdout())?;
+    let mut writer = rt.stdout();
     for _ in 0..100000 {
         if !run_record(&mut reader, &mut writer)? {
             break;
         }
     }
-    writer.flush()
+    Ok(())
 }

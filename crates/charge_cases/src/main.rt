@@ -12,7 +12,7 @@ use charge::{Charge, bench_charge, controller_charge};
 use parsing::{Checked, Refusal, refusals};
 use runs::{End, Stopped};
 use std::io;
-use std::io::{BufWriter, Read, Write};
+use std::io::{Read, Write};
 
 // Any refusal of a call.
 fn some_refusal() -> Refusal {
@@ -116,11 +116,11 @@ fn run_record<R: Read, W: Write>(reader: &mut R, writer: &mut W) -> io::Result<b
 
 fn main(rt: HostRuntime) -> io::Result<()> {
     let mut reader = rt.stdin();
-    let mut writer = BufWriter::new(rt.alloc(), rt.stdout())?;
+    let mut writer = rt.stdout();
     for _ in 0..100000 {
         if !run_record(&mut reader, &mut writer)? {
             break;
         }
     }
-    writer.flush()
+    Ok(())
 }

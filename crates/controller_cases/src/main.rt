@@ -15,7 +15,7 @@ use casts::{double_word, pair, triple, word};
 use controller::machine::{Answer, run};
 use parsing::{Checked, version_of};
 use std::io;
-use std::io::{BufWriter, Read, Write};
+use std::io::{Read, Write};
 
 // The line of a record of the input, by the version of its file: of each record in use its first word, the place of its tag.
 fn print_answer<W: Write>(
@@ -95,11 +95,11 @@ fn run_record<R: Read, W: Write>(reader: &mut R, writer: &mut W) -> io::Result<b
 
 fn main(rt: HostRuntime) -> io::Result<()> {
     let mut reader = rt.stdin();
-    let mut writer = BufWriter::new(rt.alloc(), rt.stdout())?;
+    let mut writer = rt.stdout();
     for _ in 0..100000 {
         if !run_record(&mut reader, &mut writer)? {
             break;
         }
     }
-    writer.flush()
+    Ok(())
 }

@@ -15,7 +15,7 @@ use case_io::words::{print_rest, print_stop};
 use casts::{pair, triple, word};
 use parsing::{Checked, version_of};
 use std::io;
-use std::io::{BufWriter, Read, Write};
+use std::io::{Read, Write};
 
 // What the bytes of the room hold before a call.
 const UNTOUCHED_BYTE: u8 = 7;
@@ -156,11 +156,11 @@ fn run_record<R: Read, W: Write>(reader: &mut R, writer: &mut W) -> io::Result<b
 
 fn main(rt: HostRuntime) -> io::Result<()> {
     let mut reader = rt.stdin();
-    let mut writer = BufWriter::new(rt.alloc(), rt.stdout())?;
+    let mut writer = rt.stdout();
     for _ in 0..100000 {
         if !run_record(&mut reader, &mut writer)? {
             break;
         }
     }
-    writer.flush()
+    Ok(())
 }

@@ -9,7 +9,7 @@ use case_io::input::{read_part, read_whole};
 use case_io::print::{bytes, numbered, refusal, say};
 use casts::triple;
 use std::io;
-use std::io::{BufWriter, Read, Write};
+use std::io::{Read, Write};
 use translator::Translated;
 
 fn run_case<W: Write>(writer: &mut W, file: &[u8], out: &mut [u8]) -> io::Result<()> {
@@ -53,12 +53,12 @@ fn run_record<R: Read, W: Write>(
 
 fn main(rt: HostRuntime) -> io::Result<()> {
     let mut reader = rt.stdin();
-    let mut writer = BufWriter::new(rt.alloc(), rt.stdout())?;
+    let mut writer = rt.stdout();
     let mut outs = [0u8; 65536];
     for _ in 0..100000 {
         if !run_record(&mut reader, &mut writer, &mut outs)? {
             break;
         }
     }
-    writer.flush()
+    Ok(())
 }
