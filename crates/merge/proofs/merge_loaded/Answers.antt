@@ -17,12 +17,16 @@ pub overflow_sub-size : goal.overflow_sub-size
 overflow_sub-size c = second_long c.requires
 
 pub put_file-requires-clause-both_loaded : goal.put_file-requires-clause-both_loaded
-put_file-requires-clause-both_loaded c = let judged-at : verdict_of c.or_else.result ≡ files_verdict c.args.first.now c.args.second.now (length c.args.out.now) = files_judged c.requires c.functions_of.ensures c.functions_of-2.ensures (length c.args.out.now) (joined_answers c.version_checked-version.result c.size_checked-room.result c.or_else.result c.version_checked-version.ensures c.size_checked-room.ensures c.or_else.ensures) in
+put_file-requires-clause-both_loaded c = let judged-at : verdict_of c.or_else.result ≡ files_verdict c.args.first.now c.args.second.now (length c.args.out.now) = files_judged
+    c.requires c.functions_of.ensures c.functions_of-2.ensures (length c.args.out.now) (joined_answers c.version_checked-version.result c.size_checked-room.result c.or_else.result
+    c.version_checked-version.ensures c.size_checked-room.ensures c.or_else.ensures) in
     let fits = fitting_room c.args.first.now c.args.second.now c.args.out.now (judged-at) c.in-Accepted.is in
     (c.requires, fits.0)
 
 pub put_file-requires-clause-room : goal.put_file-requires-clause-room
-put_file-requires-clause-room c = let judged-at : verdict_of c.or_else.result ≡ files_verdict c.args.first.now c.args.second.now (length c.args.out.now) = files_judged c.requires c.functions_of.ensures c.functions_of-2.ensures (length c.args.out.now) (joined_answers c.version_checked-version.result c.size_checked-room.result c.or_else.result c.version_checked-version.ensures c.size_checked-room.ensures c.or_else.ensures) in
+put_file-requires-clause-room c = let judged-at : verdict_of c.or_else.result ≡ files_verdict c.args.first.now c.args.second.now (length c.args.out.now) = files_judged c.requires
+    c.functions_of.ensures c.functions_of-2.ensures (length c.args.out.now) (joined_answers c.version_checked-version.result c.size_checked-room.result c.or_else.result
+    c.version_checked-version.ensures c.size_checked-room.ensures c.or_else.ensures) in
     let fits = fitting_room c.args.first.now c.args.second.now c.args.out.now (judged-at) c.in-Accepted.is in
     fits.1
 

@@ -14,7 +14,10 @@ use Rattle.merge.proofs.FunctionLaws.{labels_from, labels_more, labels_none, fun
 use Rattle.merge.proofs.functions.put_function.Goals as goal
 
 pub put_entry-place-requires-clause-room : goal.put_entry-place-requires-clause-room
-put_entry-place-requires-clause-room c = let front_at : Room c.args.o (length (entry_bytes c.args.file.now c.args.f c.args.count)) c.args.out.now = let whole-at : Rest c.args.o (function_bytes (renumbered_function c.args.count (function_of (program_of c.args.file.now) c.args.f))) c.args.out.now c.args.o (entry_bytes c.args.file.now c.args.f c.args.count ++ labels_from c.args.file.now c.args.f 0 c.args.count) c.args.out.now = rest_from_lem c.requires.room (function_is c.args.file.now c.args.f c.args.count) in rest_front (entry_bytes c.args.file.now c.args.f c.args.count) _ (whole-at) in
+put_entry-place-requires-clause-room c = let front_at : Room c.args.o (length (entry_bytes c.args.file.now c.args.f c.args.count)) c.args.out.now = let whole-at : Rest c.args.o
+    (function_bytes (renumbered_function c.args.count (function_of (program_of c.args.file.now) c.args.f))) c.args.out.now c.args.o (entry_bytes c.args.file.now c.args.f
+    c.args.count ++ labels_from c.args.file.now c.args.f 0 c.args.count) c.args.out.now = rest_from_lem c.requires.room (function_is c.args.file.now c.args.f c.args.count) in
+    rest_front (entry_bytes c.args.file.now c.args.f c.args.count) _ (whole-at) in
     front_at
 
 pub loop-l-init : goal.loop-l-init

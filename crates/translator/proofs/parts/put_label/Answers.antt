@@ -17,7 +17,9 @@ pub put_part-requires-clause-placed : goal.put_part-requires-clause-placed
 put_part-requires-clause-placed c = let w = counts_bound c.requires.loaded.0 c.args.f c.requires.f_in_bounds.0 c.args.l c.requires.f_in_bounds.1 _ c.fields_of-x.ensures in (label_placed c.requires.loaded.0 c.args.f c.requires.f_in_bounds.0 c.args.l c.requires.f_in_bounds.1 _ c.fields_of-x.ensures c.args.numbers.now c.requires.loaded.1 _ c.offset_number-base.ensures.0, w.0, w.1)
 
 pub put_part-requires-clause-room : goal.put_part-requires-clause-room
-put_part-requires-clause-room c = let w = counts_bound c.requires.loaded.0 c.args.f c.requires.f_in_bounds.0 c.args.l c.requires.f_in_bounds.1 _ c.fields_of-x.ensures in room_as (ap length (sym (label_part c.requires.loaded.0 c.args.f c.requires.f_in_bounds.0 c.args.l c.requires.f_in_bounds.1 _ c.fields_of-x.ensures c.args.numbers.now c.requires.loaded.1 _ c.offset_number-base.ensures.0))) c.requires.room
+put_part-requires-clause-room c = let w = counts_bound c.requires.loaded.0 c.args.f c.requires.f_in_bounds.0 c.args.l c.requires.f_in_bounds.1 _ c.fields_of-x.ensures in room_as
+    (ap length (sym (label_part c.requires.loaded.0 c.args.f c.requires.f_in_bounds.0 c.args.l c.requires.f_in_bounds.1 _ c.fields_of-x.ensures c.args.numbers.now
+    c.requires.loaded.1 _ c.offset_number-base.ensures.0))) c.requires.room
 
 pub returns : goal.returns
 returns c =
