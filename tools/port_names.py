@@ -1,5 +1,5 @@
 #!/usr/bin/env python3
-"""Spells the repository's own definitions and lemmas in snake case, after /opt/rattle/port/port.py has run.
+"""Spells the repository's own definitions and lemmas in snake case, after the kit's port.py has run.
 
 usage: python3 tools/port_names.py [--list] [ROOT]
 
