@@ -182,9 +182,12 @@ def stored_rows():
 
 
 def refusals():
-    """Each number of a refusal has a row in docs/REFUSALS.md."""
+    """The number of each reason (the variants of `Reason` of crate `parsing`) has a row in docs/REFUSALS.md."""
     rows = {cells(line)[0] for _, line in numbered(read("docs/REFUSALS.md")) if cells(line)}
-    for number in re.findall(r"^pub const \w+: u8 = (\d+);", read("crates/parsing/src/refusals.rt"), re.M):
+    numbers = re.findall(r"^ *\w+ = (\d+),$", read("crates/parsing/src/reason.rt"), re.M)
+    if not numbers:
+        found("docs/REFUSALS.md", 1, "no reasons found in crates/parsing/src/reason.rt")
+    for number in numbers:
         if number not in rows:
             found("docs/REFUSALS.md", 1, "no row of refusal " + number)
 
@@ -198,6 +201,14 @@ def crate_table(known):
             found(page, 1, "no row of crate " + crate)
 
 
+def contracts(path):
+    """The public functions of a file: each name, alone and behind its struct if it is a method, with the text from the name to the body."""
+    text = read(path)
+    for m in re.finditer(r"^( *)pub fn (\w+)(.*?)\{ *$", text, re.M | re.S):
+        owners = re.findall(r"^impl(?:<[^>]*>)? (\w+)", text[:m.start()], re.M) if m.group(1) else []
+        yield {m.group(2)} | {"%s::%s" % (owner, m.group(2)) for owner in owners[-1:]}, m.group(3)
+
+
 def required():
     """The list of docs/DECISIONS.md: every public function with a `requires` is named, or its crate is; no function without one is."""
     page = "docs/DECISIONS.md"
@@ -208,12 +219,12 @@ def required():
     asking, public = set(), set()
     for path in sorted(glob.glob("crates/*/src/**/*.rt", recursive=True)):
         crate = path.split("/")[1]
-        for m in re.finditer(r"^ *pub fn (\w+)(.*?)\{ *$", read(path), re.M | re.S):
-            public.add(m.group(1))
-            if "requires" in m.group(2):
-                asking.update((m.group(1), crate))
-                if not {m.group(1), crate} & (listed | behind):
-                    found(page, 1, "not in the list of functions with a `requires`: %s %s" % (crate, m.group(1)))
+        for called, contract in contracts(path):
+            public |= called
+            if "requires" in contract:
+                asking |= called | {crate}
+                if not (called | {crate}) & (listed | behind):
+                    found(page, 1, "not in the list of functions with a `requires`: %s %s" % (crate, max(called, key=len)))
     for name in sorted(listed & public - asking):
         found(page, 1, "has no `requires`: " + name)
 

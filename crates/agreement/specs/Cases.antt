@@ -1,5 +1,6 @@
 -- Document 01's starred cases ('The test procedure and its neighbours'), as one table under one theorem, by computation of the rules
 -- from the bytes of the files. Steps are bench, controller. Document 02, Slip 2: "The wrap case becomes: raises." Rows of version 2 (Slip 7) follow.
+use Rattle.parsing.specs.declared.reason.Reason.TheVariants.{CalleeArity, EndsEarly, LeftOver, MissingLabel, MissingVariable, Unknown, WrongMark, WrongVersion}
 use Rattle.std.specs.Prelude.{ℕ, ◌*◌, ◌≡◌, refl, List, [], ◌∷◌, ◌++◌, ℤ, pos, take, drop, set}
 use Rattle.semantics.specs.Value.{least, in_range, at_most}
 use Rattle.semantics.specs.Run.{value, uncaught, Stop, ended, spent, deep}
@@ -200,12 +201,12 @@ table =
     ∷ runs subtracts (least ∷ pos 0 ∷ []) 256 100 21 (ended (value least)) 2 0 2
     ∷ runs subtracts_guarded (least ∷ pos 1 ∷ []) 256 100 44 (ended (value least)) 3 1 4
     ∷ runs subtracts_called (least ∷ pos 1 ∷ []) 256 100 68 (ended (value least)) 4 3 7
-    ∷ checks [] (refused 3 0)
-    ∷ checks (0x53 ∷ 0x50 ∷ 0x47 ∷ []) (refused 1 2)
-    ∷ checks (take 40 file_t) (refused 3 40)
-    ∷ checks_with_one_more file_t (refused 4 41)
-    ∷ checks (set file_t 11 3) (refused 8 11)
-    ∷ checks (set file_t 28 2) (refused 10 15)
+    ∷ checks [] (refused EndsEarly 0)
+    ∷ checks (0x53 ∷ 0x50 ∷ 0x47 ∷ []) (refused WrongMark 2)
+    ∷ checks (take 40 file_t) (refused EndsEarly 40)
+    ∷ checks_with_one_more file_t (refused LeftOver 41)
+    ∷ checks (set file_t 11 3) (refused MissingLabel 11)
+    ∷ checks (set file_t 28 2) (refused CalleeArity 15)
     ∷ runs only_raises [] 256 100 12 (ended (uncaught (pos 0))) 1 0 1
     ∷ runs calls_then_raises [] 256 100 72 (ended (value (pos 0))) 5 3 8
     ∷ runs receives_itself (pos 5 ∷ []) 256 100 36 (ended (value (pos 5))) 3 1 4
@@ -213,9 +214,9 @@ table =
     ∷ runs only_raises_zero [] 256 100 19 (ended (uncaught (pos 0))) 1 1 2
     ∷ runs raises_two_frames_up (pos 5 ∷ []) 256 100 82 (ended (value (pos 7))) 6 3 9
     ∷ runs receives_misfit (least ∷ pos 1 ∷ []) 256 100 50 (ended (value (pos 0))) 3 2 5
-    ∷ checks (set receives_itself 16 1) (refused 7 16)
-    ∷ checks (set raises_argument 3 1) (refused 6 9)
-    ∷ checks (set raises_argument 3 3) (refused 2 3)
+    ∷ checks (set receives_itself 16 1) (refused MissingVariable 16)
+    ∷ checks (set raises_argument 3 1) (refused Unknown 9)
+    ∷ checks (set raises_argument 3 3) (refused WrongVersion 3)
     ∷ translates file_t file_t_translated
     ∷ translates receives_nothing receives_nothing_translated
     ∷ []

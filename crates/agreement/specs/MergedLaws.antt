@@ -40,7 +40,7 @@ record Start (s : List ℕ) (f : FunctionNumber) : Type 0 where
 -- What a call tells depends on its answer only where it is accepted.
 tells_alike : {A : Type 0} (v : Verdict) (a b : A) → (v ≡ accepted → a ≡ b) → by_verdict v a ≡ by_verdict v b
 tells_alike accepted a b e = ap (by_verdict accepted) (e refl)
-tells_alike (refused number place) a b e = refl
+tells_alike (refused reason place) a b e = refl
 
 stop_of : {a b : Result (Unit {0})} → a ≡ b → a.stop ≡ b.stop
 stop_of e = ap (λ (r : Result (Unit {0})). r.stop) e

@@ -1,11 +1,10 @@
 -- The side-by-side call from function f of a procedure: what it is refused for, what it tells, and what the lent memory then holds.
-use Rattle.std.specs.Prelude.{ℕ, ◌+◌, ◌*◌, ◌≤◌, ◌<◌, ◌≡◌, List, ◌++◌, ℤ, length, drop}
+use Rattle.std.specs.Prelude.{ℕ, ◌+◌, ◌*◌, ◌≤◌, ◌<◌, ◌≡◌, List, ◌++◌, ℤ, length, drop, Err, Ok}
 use Rattle.semantics.specs.Program.{FunctionNumber, function_of}
 use Rattle.semantics.specs.Run.{Result, summary}
 use Rattle.semantics.specs.Controller.{Control}
 use Rattle.semantics.specs.Statement.{StopsMatch}
 use Rattle.parsing.specs.declared.Refusal.{Refusal}
-use Rattle.parsing.specs.declared.Checked.TheVariants.{Accepted, Refused}
 use Rattle.parsing.specs.Parser.{Verdict, accepted, or_else, verdict_of}
 use Rattle.parsing.specs.Bytes.{Bytes}
 use Rattle.memory.specs.Frame.{frame_size}
@@ -82,7 +81,7 @@ pub record RanTogether (s : List ℕ) (f : FunctionNumber) (args : List ℤ) (de
   pub stops : StopsMatch (program_of s) (Bench.run_of s f args depth budget).stop (controller_run s f args depth budget).stop
   pub counted : a.controller.steps ≡ a.bench.steps + a.bench.extras
   -- "That neither run is then refused is part of the claim."
-  pub neither_refused : (a.bench.verdict ≡ Accepted) × (a.controller.verdict ≡ Accepted)
+  pub neither_refused : (a.bench.verdict ≡ (Ok tt)) × (a.controller.verdict ≡ (Ok tt))
   -- At every larger budget, and for ever.
   pub claim : Claim s f args depth
 
@@ -97,7 +96,7 @@ SidesMemory s f args depth budget a m m' =
 
 -- The answer of a refused call: nothing was translated or run.
 abbrev pub refused_sides : Refusal → Sides
-refused_sides r = record { verdict = Refused r; target = 0; bench = Bench.refused_answer r; controller = Controller.refused_answer r }
+refused_sides r = record { verdict = Err r; target = 0; bench = Bench.refused_answer r; controller = Controller.refused_answer r }
 
 -- ── What running both machines is asked, and what it gives ──────────────────────────────────────
 

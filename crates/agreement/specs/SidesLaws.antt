@@ -1,14 +1,13 @@
 -- The side-by-side call, as the code has it.
-use Rattle.std.specs.Prelude.{ℕ, ◌+◌, ◌*◌, ◌≤◌, ◌<◌, ◌≡◌, List, ◌++◌, ℤ, length, take, drop}
+use Rattle.std.specs.Prelude.{ℕ, ◌+◌, ◌*◌, ◌≤◌, ◌<◌, ◌≡◌, List, ◌++◌, ℤ, length, take, drop, Err, Ok, Result}
 use Rattle.std.proofs.Common.{arith, sym, ap₂, ◌∙◌, subst, length-append}
 use Rattle.std.proofs.Math.Path.{refl, ap}
 use Rattle.std.proofs.Math.Seq.{take-append_seam}
 use Rattle.semantics.specs.Program.{FunctionNumber, function_of}
 use Rattle.semantics.specs.SlotCount.{UsesSlots, slots_used}
-use Rattle.semantics.specs.Run.{Stop, ended, spent, deep, broken, Result, one_more_if_deep, summary}
+use Rattle.semantics.specs.Run.{Stop, ended, spent, deep, broken, one_more_if_deep, summary}
+use Rattle.semantics.specs.Run as Rules
 use Rattle.parsing.specs.declared.Refusal.{Refusal}
-use Rattle.parsing.specs.declared.Checked.{Checked}
-use Rattle.parsing.specs.declared.Checked.TheVariants.{Accepted, Refused}
 use Rattle.parsing.specs.Parser.{Verdict, accepted, refused, verdict_of, or_else}
 use Rattle.parsing.specs.Bytes.{Bytes}
 use Rattle.parsing.specs.VerdictLaws.{or_accepted}
@@ -21,7 +20,7 @@ use Rattle.runs.proofs.TellsLaws.{answered}
 use Rattle.runs.proofs.CallLaws.{Promised, promised_refused, promised_ran}
 use Rattle.runs.proofs.OutputLaws.{lay_front}
 use Rattle.procedure_file.specs.Check.{check_of, program_of}
-use Rattle.procedure_file.specs.Loaded.{Loaded}
+use Rattle.procedure_file.specs.Loaded.{Laid}
 use Rattle.target_file.specs.Check as Target
 use Rattle.translator.specs.Translated.{translation_of, room_verdict}
 use Rattle.translator.specs.AnswerLaws.{fitting_room}
@@ -64,7 +63,7 @@ module _ {s : List ℕ} {f : FunctionNumber} {args : List ℤ} {depth : ℕ} {fr
 
   -- The bench's answer.
   module _ {budget : ℕ} {a : BenchAnswer.Answer} {frames' : List ℤ} (B : Bench.RunAnswered s f args depth budget a frames frames') where
-    bench_summary : (a.verdict ≡ Accepted) × (Bench.summary_of a ≡ Bench.run_summary s f args depth budget)
+    bench_summary : (a.verdict ≡ Ok tt) × (Bench.summary_of a ≡ Bench.run_summary s f args depth budget)
     bench_summary = answered a.verdict (Bench.summary_of a) (Bench.run_summary s f args depth budget) B.answer
 
     pub sum_small : budget < 4294967296 → a.steps + a.extras < 9223372036854775807
@@ -89,7 +88,7 @@ module _ {s : List ℕ} {f : FunctionNumber} {args : List ℤ} {depth : ℕ} {fr
             (subst (λ (k : ℕ). Controller.RunAnswered (translation_of s) k args depth n c records records') ig
             (subst (λ (t : List ℕ). Controller.RunAnswered t g args depth n c records records') it C))
 
-        controller_summary : (c.verdict ≡ Accepted) × (Controller.summary_of c ≡ summary (controller_run s f args depth budget))
+        controller_summary : (c.verdict ≡ Ok tt) × (Controller.summary_of c ≡ summary (controller_run s f args depth budget))
         controller_summary = answered c.verdict (Controller.summary_of c) (summary (controller_run s f args depth budget)) controller_answered.answer
 
         together_summary : summary (controller_run s f args depth budget) ≡ record { stop = (Bench.summary_of a).result.stop; steps = a.steps + a.extras }
@@ -97,7 +96,7 @@ module _ {s : List ℕ} {f : FunctionNumber} {args : List ℤ} {depth : ℕ} {fr
             ran_alike s f args depth R.is_accepted R.function R.arguments claim.is_accepted claim.entry claim.arguments claim.bench_moves claim.controller_moves claim.agree budget
             ∙ ap (λ (t : Bench.BenchSummary). record { stop = t.result.stop; steps = t.result.steps + t.extras }) (sym bench_summary.1)
 
-        pub machines_ran : MachinesRan s f args depth budget (record { verdict = Accepted; target = length target; bench = a; controller = c }) frames frames' records records'
+        pub machines_ran : MachinesRan s f args depth budget (record { verdict = Ok tt; target = length target; bench = a; controller = c }) frames frames' records records'
         machines_ran =
             record {
               answer = ap tells (cc (ap length it, bench_summary.1, controller_summary.1));
@@ -106,7 +105,7 @@ module _ {s : List ℕ} {f : FunctionNumber} {args : List ℤ} {depth : ℕ} {fr
                     frame_words = B.held;
                     record_words = controller_answered.held;
                     stops = stops_match s f args depth R.is_accepted R.function R.arguments claim.is_accepted claim.entry claim.arguments claim.bench_moves claim.controller_moves claim.agree budget;
-                    counted = ap (λ (r : Result (Unit {0})). r.steps) (controller_summary.1 ∙ together_summary);
+                    counted = ap (λ (r : Rules.Result (Unit {0})). r.steps) (controller_summary.1 ∙ together_summary);
                     neither_refused = (bench_summary.0, controller_summary.0);
                     claim = claim;
                   };
@@ -124,11 +123,11 @@ module _ (s : List ℕ) (f : FunctionNumber) (args : List ℤ) (depth budget : �
       Promised (λ b. verdict_of b.verdict) summary_of refused_sides (sides_tell s f args depth budget (length m.frames) (length m.room) (length m.records)) verdict (Ran s f args depth budget a m m') a m m'
 
   -- A refused call.
-  pub refused_so : {r : Refusal} (a : Sides) → a ≡ refused_sides r → verdict ≡ refused r.number r.place → Promises a m
+  pub refused_so : {r : Refusal} (a : Sides) → a ≡ refused_sides r → verdict ≡ refused r.reason r.place → Promises a m
   unfolding sides_tell
   refused_so {r} a q e = promised_refused (λ b. verdict_of b.verdict) summary_of refused_sides (runs_summary s f args depth budget) refl (Ran s f args depth budget a m m) a m r refl e q
 
-  pub file_refused : {v : Checked} {r : Refusal} (a : Sides) → verdict_of v ≡ check_of s → v ≡ Refused r → a ≡ refused_sides r → Promises a m
+  pub file_refused : {v : Result (Unit {0}) Refusal} {r : Refusal} (a : Sides) → verdict_of v ≡ check_of s → v ≡ Err r → a ≡ refused_sides r → Promises a m
   unfolding sides_verdict
   file_refused a e q k = refused_so a k (rw (sym e ∙ ap verdict_of q))
 
@@ -163,33 +162,33 @@ fitting_call start functions given wanted size room depth frames records e =
     }
 
 -- A call on a loaded file, judged.
-pub record JudgedAs (s : List ℕ) (f : FunctionNumber) (args : List ℤ) (depth : ℕ) (m : Memory) (v : Checked) : Type 0 where
+pub record JudgedAs (s : List ℕ) (f : FunctionNumber) (args : List ℤ) (depth : ℕ) (m : Memory) (v : Result (Unit {0}) Refusal) : Type 0 where
   pub bytes : Bytes s
   pub is_accepted : check_of s ≡ accepted
   pub verdict : verdict_of v ≡ call_verdict f (length (program_of s)) (length args) (function_of (program_of s) f).params (length (translation_of s)) (length m.room) depth (length m.frames) (length m.records)
 
-pub judged_as : {s starts : List ℕ} {f : FunctionNumber} {depth : ℕ} (args : List ℤ) (m : Memory) (v : Checked) {functions wanted size : ℕ} → Loaded s starts → functions ≡ length (program_of s)
+pub judged_as : {s : List ℕ} {f : FunctionNumber} {depth : ℕ} (args : List ℤ) (m : Memory) (v : Result (Unit {0}) Refusal) {functions wanted size : ℕ} → Laid s → check_of s ≡ accepted → functions ≡ length (program_of s)
     → wanted ≡ (function_of (program_of s) f).params → size ≡ length (translation_of s)
     → verdict_of v ≡ call_verdict f functions (length args) wanted size (length m.room) depth (length m.frames) (length m.records) → JudgedAs s f args depth m v
-judged_as {s} {f = f} {depth = depth} args m v {functions} {wanted} {size} L en ew es e =
+judged_as {s} {f = f} {depth = depth} args m v {functions} {wanted} {size} L a en ew es e =
     record {
-      bytes = L.tabled.laid.bytes;
-      is_accepted = L.is_accepted;
+      bytes = L.bytes;
+      is_accepted = a;
       verdict =
           e
           ∙ (ap₂ (λ (n k : ℕ). call_verdict f n (length args) k size (length m.room) depth (length m.frames) (length m.records)) en ew
           ∙ ap (λ (k : ℕ). call_verdict f (length (program_of s)) (length args) (function_of (program_of s) f).params k (length m.room) depth (length m.frames) (length m.records)) es);
     }
 
-module _ (s : List ℕ) (f : FunctionNumber) (args : List ℤ) (depth budget : ℕ) (m : Memory) (v : Checked) (J : JudgedAs s f args depth m v) where
+module _ (s : List ℕ) (f : FunctionNumber) (args : List ℤ) (depth budget : ℕ) (m : Memory) (v : Result (Unit {0}) Refusal) (J : JudgedAs s f args depth m v) where
   judged : verdict_of v ≡ sides_verdict s f (length args) depth (length m.frames) (length m.room) (length m.records)
   unfolding sides_verdict
   judged = rw J.is_accepted J.verdict
 
-  pub call_refused : {r : Refusal} (a : Sides) → v ≡ Refused r → a ≡ refused_sides r → Promises s f args depth budget m a m
+  pub call_refused : {r : Refusal} (a : Sides) → v ≡ Err r → a ≡ refused_sides r → Promises s f args depth budget m a m
   call_refused a q k = refused_so s f args depth budget m a k (sym judged ∙ ap verdict_of q)
 
-  module _ (q : v ≡ Accepted) where
+  module _ (q : v ≡ Ok tt) where
     fitting : FittingCall f (length (program_of s)) (length args) (function_of (program_of s) f).params (length (translation_of s)) (length m.room) depth (length m.frames) (length m.records)
     fitting = fitting_call _ _ _ _ _ _ _ _ _ (sym J.verdict ∙ ap verdict_of q)
 

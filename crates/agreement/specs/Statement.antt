@@ -33,7 +33,7 @@ use Rattle.charge.specs.Charge.{charge, with_extras}
 
 -- An answer that is not the rules' `broken`; `result` gives the run of what an accepted call tells.
 abbrev pub NeverBroken : {A : Type 0} → (A → Result (Unit {0})) → Tells A → Type 0
-NeverBroken result (refuses number place) = Unit {0}
+NeverBroken result (refuses reason place) = Unit {0}
 NeverBroken result (tells a) = ¬ IsBroken (result a).stop
 
 -- A state that the controller reaches on the code of t, at some budget.
@@ -73,7 +73,7 @@ controller_budget t = t.result.steps + t.extras + one_more_if_deep t.result.stop
 
 -- An answer that is deep.
 abbrev pub AnswersDeep : {A : Type 0} → (A → Result (Unit {0})) → Tells A → Type 0
-AnswersDeep result (refuses number place) = ⊥
+AnswersDeep result (refuses reason place) = ⊥
 AnswersDeep result (tells a) = (result a).stop ≡ deep tt
 
 -- What the machines answer, bytes in and answers out: the bench on the procedure file with a budget, and the controller on its translation

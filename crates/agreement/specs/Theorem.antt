@@ -244,7 +244,7 @@ bare_broken (broken s) n b = n b
 
 never_broken : {A : Type 0} (result : A → Result (Unit {0})) (a : A) → ¬ IsBroken (result a).stop → (v : Verdict) → NeverBroken result (by_verdict v a)
 never_broken result a n accepted = n
-never_broken result a n (refused number place) = tt
+never_broken result a n (refused reason place) = tt
 
 pub files_move : FilesMove
 unfolding bench_tells controller_tells

@@ -5,25 +5,26 @@
 ghost use Rattle.std.specs.Prelude.{◌≡◌, length};
 ghost use Rattle.parsing.specs.Parser.{verdict_of};
 ghost use Rattle.runs.specs.Tells.{RefusedBy};
-ghost use Rattle.procedure_file.specs.Loaded.{Loaded};
 ghost use Rattle.translator.specs.Translated.{translation_of};
 ghost use Rattle.agreement.specs.Statement.{entry_of};
 ghost use Rattle.agreement.specs.Sides.{call_verdict, sides_verdict, meaning, sides_tell, SidesMemory, refused_sides, CallFits, MachinesRan};
 
 use memory::{FRAME_SIZE, arguments_checked, start_checked, words_checked};
-use parsing::{Checked, Refusal, or_else};
+use parsing::{Refusal, or_else};
 use procedure_file::check::load;
-use procedure_file::table::{functions_of, wanted_of};
+use procedure_file::loaded::LoadedFile;
 use runs::one_more_if_deep;
+use target_file::loaded::LoadedCode;
 use target_file::table::table_of;
 use translator::parts::{entry_number, put_file};
 use translator::{room_checked, translation_size};
 use translator_sizes::slots_used;
 
 // The answer of the call: the verdict on it; where it is accepted the bytes of the translation and the answers of both machines.
+// The verdict stands beside the values, and not a Result: a refused call promises them too (`refused_sides`).
 #[derive(Drop)]
 pub struct Sides {
-    pub verdict: Checked,
+    pub verdict: Result<(), Refusal>,
     pub target: usize,
     pub bench: bench::machine::Answer,
     pub controller: controller::machine::Answer,
@@ -40,7 +41,7 @@ fn call_judged(
     depth: usize,
     frames: usize,
     records: usize,
-) -> Checked
+) -> Result<(), Refusal>
     ensures { verdict_of result ≡ call_verdict start functions given wanted size room depth frames records }
 {
     let words = or_else(
@@ -55,8 +56,7 @@ fn call_judged(
 // Both runs from function f, the translation made, in which f's entry has number g: the controller gets bench steps plus extras, one more
 // where the bench stopped deep.
 fn run_both(
-    file: &[u8],
-    starts: &[u16; 2048],
+    file: &LoadedFile,
     f: usize,
     target: &[u8],
     g: usize,
@@ -66,24 +66,21 @@ fn run_both(
     frames: &mut [i32],
     records: &mut [i32],
 ) -> Sides
-    requires loaded { Loaded file.now starts.now }
     requires call_fits { CallFits file.now f arguments.now depth frames.old records.old }
     requires target_value { (target.now ≡ translation_of file.now) × (g ≡ entry_of file.now f) }
     ensures { MachinesRan file.now f arguments.now depth budget result frames.old frames.new records.old records.new }
 {
-    let b = bench::machine::run_loaded(file, starts, f, arguments, depth, budget as u64, frames);
-    let stopped = b.stopped;
-    let more = one_more_if_deep(stopped);
+    let b = bench::machine::run_loaded(file, f, arguments, depth, u64::from(budget), frames);
+    let more = one_more_if_deep(b.stopped);
     let taken = b.steps;
     let counted = taken + b.extras;
     let steps = counted + more;
     let bodies = table_of(target);
-    let kept = slots_used(file, starts);
-    let c = controller::machine::run_loaded(
-        target, &bodies, kept, g, arguments, depth, steps, records,
-    );
+    let kept = slots_used(file);
+    let code = LoadedCode::new(target, &bodies);
+    let c = controller::machine::run_loaded(&code, kept, g, arguments, depth, steps, records);
     Sides {
-        verdict: Checked::Accepted,
+        verdict: Ok(()),
         target: target.len(),
         bench: b,
         controller: c,
@@ -95,7 +92,7 @@ fn refused(r: Refusal) -> Sides
     ensures { result ≡ refused_sides r }
 {
     Sides {
-        verdict: Checked::Refused(r),
+        verdict: Err(r),
         target: 0,
         bench: bench::machine::refused(r),
         controller: controller::machine::refused(r),
@@ -104,8 +101,7 @@ fn refused(r: Refusal) -> Sides
 
 // The call on a loaded file, from function f.
 pub fn sides_loaded(
-    file: &[u8],
-    starts: &[u16; 2048],
+    file: &LoadedFile,
     f: usize,
     arguments: &[i32],
     depth: usize,
@@ -114,15 +110,15 @@ pub fn sides_loaded(
     room: &mut [u8],
     records: &mut [i32],
 ) -> Sides
-    requires { Loaded file.now starts.now }
     ensures tells { meaning result ≡ sides_tell file.now f arguments.now depth budget (length frames.old) (length room.old) (length records.old) }
     ensures memory { SidesMemory file.now f arguments.now depth budget result (record { frames = frames.old; room = room.old; records = records.old }) (record { frames = frames.new; room = room.new; records = records.new }) }
     ensures answer { RefusedBy refused_sides (sides_verdict file.now f (length arguments.now) depth (length frames.old) (length room.old) (length records.old)) result }
 {
-    let functions = functions_of(file);
-    let wanted = wanted_of(file, starts, f);
-    let size = translation_size(file, starts);
-    match call_judged(
+    let table = file.table();
+    let functions = table.functions();
+    let wanted = table.wanted_of(f);
+    let size = translation_size(file);
+    let judged = call_judged(
         f,
         functions,
         arguments.len(),
@@ -132,17 +128,14 @@ pub fn sides_loaded(
         depth,
         frames.len(),
         records.len(),
-    ) {
-        Checked::Refused(r) => {
-            return refused(r);
-        }
-        Checked::Accepted => {}
+    );
+    if let Err(r) = judged {
+        return refused(r);
     }
-    let g = entry_number(file, starts, f);
-    put_file(file, starts, room);
+    let g = entry_number(table, f);
+    put_file(file, room);
     run_both(
         file,
-        starts,
         f,
         &room[..size],
         g,
@@ -172,10 +165,9 @@ pub fn side_by_side(
     ensures answer { RefusedBy refused_sides (sides_verdict file.now f (length arguments.now) depth (length frames.old) (length room.old) (length records.old)) result }
 {
     let mut starts = [0u16; 2048];
-    match load(file, &mut starts) {
-        Checked::Refused(r) => refused(r),
-        Checked::Accepted => sides_loaded(
-            file, &starts, f, arguments, depth, budget, frames, room, records,
-        ),
+    if let Err(r) = load(file, &mut starts) {
+        return refused(r);
     }
+    let loaded = LoadedFile::new(file, &starts);
+    sides_loaded(&loaded, f, arguments, depth, budget, frames, room, records)
 }

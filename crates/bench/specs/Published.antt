@@ -1,11 +1,10 @@
 -- What a call of the bench tells, and what the lent words then hold.
-use Rattle.std.specs.Prelude.{ℕ, ◌*◌, ◌≤◌, ◌<◌, ◌≡◌, List, ℤ, pos, length, replicate}
+use Rattle.std.specs.Prelude.{ℕ, ◌*◌, ◌≤◌, ◌<◌, ◌≡◌, List, ℤ, pos, length, replicate, Err}
 use Rattle.semantics.specs.Program.{FunctionNumber, function_of}
 use Rattle.semantics.specs.Run.{Result, summary}
 use Rattle.semantics.specs.Bench.{Frame, State, state, bench}
 use Rattle.semantics.specs.Extras.{extras}
 use Rattle.parsing.specs.declared.Refusal.{Refusal}
-use Rattle.parsing.specs.declared.Checked.TheVariants.{Refused}
 use Rattle.parsing.specs.Parser.{Verdict, verdict_of, or_else}
 use Rattle.memory.specs.Call.{max_depth, arguments_verdict, call_verdict}
 use Rattle.memory.specs.Frame.{frame_size, frame_at}
@@ -82,7 +81,7 @@ BenchWords s f args depth budget a words words' =
 abbrev pub refused_answer : Refusal → Answer
 refused_answer r =
     record {
-      verdict = Refused r;
+      verdict = Err r;
       stopped = Spent;
       steps = 0;
       extras = 0;

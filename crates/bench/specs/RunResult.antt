@@ -10,7 +10,7 @@ use Rattle.runs.specs.Machine.{Held, held, Machine, RunStops}
 use Rattle.procedure_file.specs.Check.{program_of}
 use Rattle.bench_frames.specs.declared.registers.Regs.{Regs}
 use Rattle.bench_frames.specs.Machine.{state_of, Standing}
-use Rattle.bench.specs.declared.machine.Ran.{Ran}
+use Rattle.runs.specs.declared.Ran.{Ran}
 use Rattle.bench.specs.Published.{ZeroAtEnd}
 
 -- What the machine holds stands for a state from which it can go on.
@@ -36,5 +36,5 @@ abbrev pub StoppedAt : List ℕ → ℕ → Held Regs → Stop State → Type 0
 StoppedAt s limit m stop = GivesState (ZeroAtEnd m.regs.extras m.regs m.values) (StandsFor s limit m) stop
 
 -- Going on from a state with a budget: the rules' run from there, as the machine says.
-pub record RunResult (s : List ℕ) (limit budget : ℕ) (r : Regs) (vs words : List ℤ) (x : Ran) (vs' words' : List ℤ) : Type 0 where
+pub record RunResult (s : List ℕ) (limit budget : ℕ) (r : Regs) (vs words : List ℤ) (x : Ran Regs) (vs' words' : List ℤ) : Type 0 where
   pub ran : RunStops (machine s limit) budget (ZeroAtEnd x.regs.extras x.regs vs') (held r vs words) (record { stop = stopped_as x.stopped; steps = x.steps }) (held x.regs vs' words')

@@ -1,5 +1,5 @@
 -- A run from function f: its start, its end and the clearing of frames, as the code has them.
-use Rattle.std.specs.Prelude.{ℕ, zero, suc, ◌+◌, ◌*◌, ◌-◌, ◌≤◌, ◌<◌, ◌≡◌, refl, ℤ, pos, take}
+use Rattle.std.specs.Prelude.{ℕ, zero, suc, ◌+◌, ◌*◌, ◌-◌, ◌≤◌, ◌<◌, ◌≡◌, refl, ℤ, pos, take, Ok}
 use Rattle.std.proofs.Common.{arith, zero-add, ◌∙◌}
 use Rattle.std.proofs.Math.Path.{sym, ap, subst}
 use mathlib.Core.List.{List, [], ◌∷◌, ◌++◌}
@@ -12,7 +12,6 @@ use Rattle.semantics.specs.Bench.{Frame, State, state, begun, step, bench}
 use Rattle.semantics.specs.WellFormed.{WellFormedState}
 use Rattle.semantics.specs.Extras.{extra, extras}
 use Rattle.semantics.proofs.Theorem.{start_well_formed}
-use Rattle.parsing.specs.declared.Checked.TheVariants.{Accepted}
 use Rattle.memory.specs.Lay.{lay}
 use Rattle.memory.specs.Frame.{frame_size}
 use Rattle.memory.specs.LayLaws.{length_lay}
@@ -27,7 +26,7 @@ use Rattle.procedure_file.specs.FileInvariant.{FileInvariant, OperationsAt}
 use Rattle.bench_frames.specs.declared.registers.Regs.{Regs}
 use Rattle.bench_frames.specs.Machine.{function_at, vars_of, frames_of, state_of, FrameStands, Standing}
 use Rattle.bench_frames.specs.StateLaws.{length_frames, frames_same}
-use Rattle.bench.specs.declared.machine.Ran.{Ran}
+use Rattle.runs.specs.declared.Ran.{Ran}
 use Rattle.bench.specs.declared.machine.Answer.{Answer}
 use Rattle.runs.specs.Machine.{held, StoppedFrom}
 use Rattle.bench.specs.RunResult.{StandsFor, machine, StoppedAt, RunResult}
@@ -51,7 +50,7 @@ module _ {s : List ℕ} (F : FileInvariant s) {f : FunctionNumber} {args : List 
   arguments_bound = let a : length args ≡ (function_at s f).params = C.arguments in let b : (function_at s f).params ≤ 8 = (F.counts f there).params in omega arith
 
   -- Where the run starts.
-  module _ {vs : List ℤ} {at x : ℕ} (ev : vs ≡ lay 0 (take (length args) (drop 0 args)) (replicate 32 (pos 0))) (ea : at ≡ start_of (program_of s) f 0) (ex : x ≡ (function_at s f).locals) where
+  module _ {vs : List ℤ} {at : ℕ} (ev : vs ≡ lay 0 (take (length args) (drop 0 args)) (replicate 32 (pos 0))) (ea : at ≡ start_of (program_of s) f 0) (x : ℕ) where
     abbrev begins : Regs
     begins = record { function = f; handler = 0; at = at; waiting = 0; extras = x }
 
@@ -95,11 +94,11 @@ module _ {s : List ℕ} (F : FileInvariant s) {f : FunctionNumber} {args : List 
           variables = vars_long;
         }
 
-    pub start_small : x < 4294967296
-    start_small = let l : (function_at s f).locals ≤ 24 = (F.counts f there).locals in let e : x ≡ (function_at s f).locals = ex in omega arith
+    pub start_small : x ≡ (function_at s f).locals → x < 4294967296
+    start_small ex = let l : (function_at s f).locals ≤ 24 = (F.counts f there).locals in let e : x ≡ (function_at s f).locals = ex in omega arith
 
     -- Where it stopped, with w frames in use.
-    module _ {budget : ℕ} {y : Ran} {us words₁ : List ℤ} (R : RunResult s depth budget begins vs words y us words₁) where
+    module _ {budget : ℕ} {y : Ran Regs} {us words₁ : List ℤ} (R : RunResult s depth budget begins vs words y us words₁) where
       stops : StoppedFrom (machine s depth) budget (ZeroAtEnd y.regs.extras y.regs us) (held begins vs words) (state_of s begins vs words) (record { stop = stopped_as y.stopped; steps = y.steps }) (held y.regs us words₁)
       stops = R.ran.stops (state_of s begins vs words) (refl, start_held)
 
@@ -107,9 +106,9 @@ module _ {s : List ℕ} (F : FileInvariant s) {f : FunctionNumber} {args : List 
       unfolding bench
       ran = ap (λ (S : State). run (step (program_of s) depth) budget S) start_is
 
-      sum : x + total (step (program_of s) depth) (extra (program_of s)) budget (state_of s begins vs words) ≡ extras (program_of s) f args depth budget
+      sum : x ≡ (function_at s f).locals → x + total (step (program_of s) depth) (extra (program_of s)) budget (state_of s begins vs words) ≡ extras (program_of s) f args depth budget
       unfolding extras
-      sum =
+      sum ex =
           ap (λ (S : State). x + total (step (program_of s) depth) (extra (program_of s)) budget S) start_is
           ∙ ap (λ (k : ℕ). k + total (step (program_of s) depth) (extra (program_of s)) budget (begun f (function_at s f) args [])) ex
 
@@ -126,15 +125,15 @@ module _ {s : List ℕ} (F : FileInvariant s) {f : FunctionNumber} {args : List 
         fits : w ≤ depth
         fits = subst (λ (k : ℕ). k ≤ depth) (sym used) (in_use_fits y.regs.waiting (ZeroAtEnd y.regs.extras y.regs us) (run_of s f args depth budget).stop (λ S h. h.1.waiting) reached)
 
-        pub clear_fits : (frame_size * w ≤ frame_size * depth) × (frame_size * depth ≤ length words₁)
-        clear_fits = let l : w ≤ depth = fits in let k : frame_size * depth ≤ length words = C.room in let m : length words₁ ≡ length words = R.ran.keeps.same_length in (omega arith, omega arith)
+        pub clear_fits : (w ≤ depth) × (frame_size * depth ≤ length words₁)
+        clear_fits = let k : frame_size * depth ≤ length words = C.room in let m : length words₁ ≡ length words = R.ran.keeps.same_length in (fits, omega arith)
 
         module _ {words₂ : List ℤ} (ec : words₂ ≡ lay (frame_size * w) (replicate (frame_size * depth - frame_size * w) (pos 0)) words₁) where
           clean : Cleared frame_size depth w words words₁ words₂
           clean = cleared frame_size fits C.room R.ran.keeps.past R.ran.keeps.same_length ec
 
           abbrev answer : Answer
-          answer = record { verdict = Accepted; stopped = y.stopped; steps = y.steps; extras = y.regs.extras; regs = y.regs; vars = us }
+          answer = record { verdict = (Ok tt); stopped = y.stopped; steps = y.steps; extras = y.regs.extras; regs = y.regs; vars = us }
 
           -- The state is still stood for once the other frames are cleared.
           still : (S : State) → w ≡ y.regs.waiting → StandsFor s depth (held y.regs us words₁) S
@@ -155,12 +154,12 @@ module _ {s : List ℕ} (F : FileInvariant s) {f : FunctionNumber} {args : List 
                 sym n,
               )
 
-          pub answered : RunAnswered s f args depth budget answer words words₂
-          answered =
+          pub answered : x ≡ (function_at s f).locals → RunAnswered s f args depth budget answer words words₂
+          answered ex =
               record {
                 answer =
                     ap (λ (k : Result (Unit {0})). tells (record { result = k; extras = y.regs.extras })) (sym tells_so)
-                    ∙ ap (λ (n : ℕ). tells (record { result = summary (run_of s f args depth budget); extras = n })) (sym stops.sum ∙ sum);
+                    ∙ ap (λ (n : ℕ). tells (record { result = summary (run_of s f args depth budget); extras = n })) (sym stops.sum ∙ sum ex);
                 held =
                     words_after frames_in (λ fs. frames_of s words₂ (length fs) ≡ fs) (ZeroAtEnd y.regs.extras y.regs us) (StandsFor s depth (held y.regs us words₁)) (StateGiven s answer words₂)
                     clean refl still (run_of s f args depth budget).stop used reached;

@@ -11,9 +11,10 @@ use case_fields::record::{argument_bytes, arguments, byte_at};
 use case_fields::words::{UNTOUCHED, lent};
 use case_io::input::{read_part, read_whole};
 use case_io::print::{numbered, say};
+use case_io::records::run_records;
 use case_io::words::{print_frames, print_refused, print_rest, print_stop};
-use casts::{byte_number, pair, word};
-use parsing::{Checked, version_of};
+use casts::{pair, word};
+use parsing::{Refusal, version_of};
 use std::io;
 use std::io::{Read, Write};
 
@@ -27,10 +28,10 @@ fn print_answer<W: Write>(
 ) -> io::Result<()> {
     let verdict = a.verdict;
     match verdict {
-        Checked::Refused(r) => {
+        Err(r) => {
             print_refused(writer, r, words)?;
         }
-        Checked::Accepted => {
+        Ok(()) => {
             let regs = a.regs;
             let stopped = a.stopped;
             let waiting = print_stop(writer, stopped, version, regs.waiting)?;
@@ -102,17 +103,10 @@ fn run_record<R: Read, W: Write>(reader: &mut R, writer: &mut W) -> io::Result<b
     if got < size {
         return Ok(false);
     }
-    run_case(writer, &buffer[..got], byte_number(head[3]), head[0])?;
+    run_case(writer, &buffer[..got], usize::from(head[3]), head[0])?;
     Ok(true)
 }
 
 fn main(rt: HostRuntime) -> io::Result<()> {
-    let mut reader = rt.stdin();
-    let mut writer = rt.stdout();
-    for _ in 0..100000 {
-        if !run_record(&mut reader, &mut writer)? {
-            break;
-        }
-    }
-    Ok(())
+    run_records(&mut rt.stdin(), &mut rt.stdout(), 100000, run_record)
 }

@@ -74,8 +74,8 @@ module _ {s : List ℕ} {at k : ℕ} {words : List ℤ} {base : ℕ} (A : Argume
       (ap (λ (n : ℕ). take n (arguments_at s at k)) (sym A.arguments) ∙ take-length (arguments_at s at k))
 
 -- The same call, by the numbers that the code has.
-pub call_named : {o : Operation} {x y g h c n : ℕ} → o ≡ Call x g c n → y ≡ x → h ≡ g → o ≡ Call y h c n
-call_named e p q = rw (p, q) e
+pub call_named : {o : Operation} {x y g h c k n : ℕ} → o ≡ Call x g c n → y ≡ x → h ≡ g → k ≡ c → o ≡ Call y h k n
+call_named e p q r = rw (p, q, r) e
 
 module _ {s : List ℕ} (F : FileInvariant s) {limit : ℕ} {r : Regs} {vs words : List ℤ} (H : Standing s limit r vs words)
     {x g c n : ℕ} (op : operation_at s r.at ≡ Call x g c n) where
@@ -258,25 +258,25 @@ module _ {s : List ℕ} (F : FileInvariant s) {limit : ℕ} {r : Regs} {vs words
         all_long : length all ≡ c + l
         all_long = simp (length-append, length-replicate) (ap (λ (j : ℕ). j + l) args_long)
 
-        pub call_done : {a : ℕ} {us₂ : List ℤ} → us₂ ≡ lay c (replicate (c + l - c) (pos 0)) us₁ → a ≡ start_of (program_of s) g 0
-            → Gives H (Next (record { function = g; handler = 0; at = a; waiting = r.waiting + 1; extras = r.extras + (1 + l) })) us₂ words'
-        call_done {us₂ = us₂} e₂ ea =
+        pub call_done : {a m : ℕ} {us₂ : List ℤ} → us₂ ≡ lay c (replicate (c + l - c) (pos 0)) us₁ → a ≡ start_of (program_of s) g 0 → m ≡ l
+            → Gives H (Next (record { function = g; handler = 0; at = a; waiting = r.waiting + 1; extras = r.extras + 1 + m })) us₂ words'
+        call_done {us₂ = us₂} e₂ ea em =
             let b : c + l ≤ 32 = all_bound in
             let d : length vs ≡ 32 = H.variables in
             let m : length args ≡ c = args_long in
             let z : c + l - c ≡ l = omega arith in
             let o : length all ≡ c + l = all_long in
-            let t : 1 + l ≡ suc l = omega arith in
+            let t : r.extras + 1 + l ≡ r.extras + suc l = omega arith in
             let e : us₂ ≡ lay 0 all vs =
             join 0 c args (replicate l (pos 0)) all vs us₁ us₂ with_args (e₂ ∙ ap (λ (j : ℕ). lay c (replicate j (pos 0)) us₁) z) (omega arith) refl (omega arith) in
-            rw (words_are, ea)
+            rw (words_are, ea, em)
             (moved F H (calling ∙ lands e o) (F.start g 0 callee (omega arith)) (λ i j. stands_are i (subst (λ (w : ℕ). i < w) (add-one r.waiting) j))
             (ap length e ∙ (length_lay 0 all vs (omega arith) ∙ d))
             (pushed_long frame_size r.waiting saved own words own_bound_lem room) (pushed_past frame_size r.waiting saved own words own_bound_lem room limit free)
-            (ap (λ (j : ℕ). r.extras + j) (t ∙ (ap suc l_is ∙ sym (extra_is F H op)))))
+            (t ∙ ap (λ (j : ℕ). r.extras + j) (ap suc l_is ∙ sym (extra_is F H op))))
           where
             lands : us₂ ≡ lay 0 all vs → length all ≡ c + l
-                → next (begun g (function_at s g) args frames) ≡ next (state_of s (record { function = g; handler = 0; at = start_of (program_of s) g 0; waiting = r.waiting + 1; extras = r.extras + (1 + l) }) us₂ after)
+                → next (begun g (function_at s g) args frames) ≡ next (state_of s (record { function = g; handler = 0; at = start_of (program_of s) g 0; waiting = r.waiting + 1; extras = r.extras + 1 + l }) us₂ after)
             lands e o = unfold state_of in
                 ap (λ (b : Block). next (state g 0 b (args ++ replicate (function_at s g).locals (pos 0)) frames)) (sym (F.block g 0 callee (omega arith)))
                 ∙ (ap (λ (j : ℕ). next (state g 0 (rest_at s (start_of (program_of s) g 0)) (args ++ replicate j (pos 0)) frames)) (sym l_is)

@@ -31,6 +31,13 @@ use Rattle.bench_unwind.specs.Raises.{Raises}
 use Rattle.bench_step.specs.Subtracts.{behind, Subtracts}
 use Rattle.bench_unwind.specs.EnterLaws.{value_of_lem, value_is, no_extras, to_label_lem}
 
+-- The same operation, by the labels that the code has.
+pub goto_named : {o : Operation} {l m n : ℕ} → o ≡ Goto l n → m ≡ l → o ≡ Goto m n
+goto_named e p = rw p e
+
+pub branch_named : {o : Operation} {y z l m i j n : ℕ} → o ≡ Branch y z l m n → i ≡ l → j ≡ m → o ≡ Branch y z i j n
+branch_named e p q = rw (p, q) e
+
 module _ {s : List ℕ} (F : FileInvariant s) {limit : ℕ} {r : Regs} {vs words : List ℤ} (H : Standing s limit r vs words) where
   abbrev now_vars : List ℤ
   now_vars = take (vars_of s r.function) vs

@@ -27,6 +27,6 @@ module _ (size : ℕ) (words : List ℤ) where
   search_on {h = h} q e z = rw (q, sym e, eq-eqb h.word1 0 z) refl
 
   -- No frame is left.
-  pub search_ends : {w : ℕ} → w ≤ 0 → w ≡ newest_guarded_in size words w
+  pub search_ends : {w : ℕ} → w ≤ 0 → 0 ≡ newest_guarded_in size words w
   unfolding newest_guarded_in
   search_ends {w} l = let q : w ≡ 0 = omega arith in rw q refl

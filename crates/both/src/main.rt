@@ -3,26 +3,9 @@
 
 #![tactic(auto)]
 
-ghost use Rattle.std.specs.Prelude.{◌≤◌, IfOk, length};
-
+use reading::read_full;
 use report::report;
 use std::io;
-use std::io::Read;
-
-// Reads until `part` is full or the input ends; the answer is how many bytes are there.
-fn read_full<R: Read>(reader: &mut R, part: &mut [u8]) -> io::Result<usize>
-    ensures { IfOk result (λ got. got ≤ length part.new) }
-{
-    let mut done = 0;
-    while done < part.len() {
-        let got = reader.read(&mut part[done..])?;
-        if got == 0 {
-            return Ok(done);
-        }
-        done += got;
-    }
-    Ok(done)
-}
 
 // 4,096 bytes hold every header and more than the 2,048 bytes that a file may have: what is left unread changes nothing (`whole_input`).
 fn main(rt: HostRuntime) -> io::Result<()> {

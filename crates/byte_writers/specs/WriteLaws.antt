@@ -1,8 +1,8 @@
 -- Writes, one behind the other.
-use Rattle.std.specs.Prelude.{ℕ, ◌+◌, ◌≤◌, ◌≡◌, refl, List, [], ◌∷◌, ◌++◌, length, set}
+use Rattle.std.specs.Prelude.{ℕ, ◌+◌, ◌≤◌, ◌≡◌, refl, List, [], ◌++◌, length, take, drop}
 use Rattle.std.proofs.Common.{arith, sym, ap, ◌∙◌, subst, append-nil, length-append}
 use Rattle.memory.specs.Lay.{lay}
-use Rattle.memory.specs.LayLaws.{length_lay, lay_lay, lay_nil, lay_one, lay_two, lay_three, lay_four}
+use Rattle.memory.specs.LayLaws.{length_lay, lay_lay, lay_nil, length_part, lay_part}
 use Rattle.byte_writers.specs.Writes.{Room, Wrote}
 
 -- Room for less.
@@ -98,17 +98,9 @@ rest_front a b K = room_front a b (rest_room K)
 pub rest_last : {o₀ : ℕ} {w₀ d₀ : List ℕ} {o : ℕ} {w d : List ℕ} → Rest o₀ w₀ d₀ o w d → {r : ℕ} {d' : List ℕ} → Wrote o w d r d' → Wrote o₀ w₀ d₀ r d'
 rest_last {w = w} K W = rest_done (rest_more K w [] (sym (append-nil w)) W) refl
 
--- Single bytes, as they are stored.
-module _ {o : ℕ} {d : List ℕ} where
-  pub wrote_one : {x r : ℕ} → Room o 1 d → r ≡ o + 1 → Wrote o (x ∷ []) d r (set d o x)
-  wrote_one {x} R e = let f : o + 1 ≤ length d = R.fits in record { next = e; laid = lay_one o x d (omega arith) }
-
-  pub wrote_two : {x y r : ℕ} → Room o 2 d → r ≡ o + 2 → Wrote o (x ∷ y ∷ []) d r (set (set d o x) (o + 1) y)
-  wrote_two {x} {y} R e = record { next = e; laid = lay_two o x y d R.fits }
-
-  pub wrote_three : {x y z r : ℕ} → Room o 3 d → r ≡ o + 3 → Wrote o (x ∷ y ∷ z ∷ []) d r (set (set (set d o x) (o + 1) y) (o + 2) z)
-  wrote_three {x} {y} {z} R e = record { next = e; laid = lay_three o x y z d R.fits }
-
-  pub wrote_four : {x y z w r : ℕ} → Room o 4 d → r ≡ o + 4
-      → Wrote o (x ∷ y ∷ z ∷ w ∷ []) d r (set (set (set (set d o x) (o + 1) y) (o + 2) z) (o + 3) w)
-  wrote_four {x} {y} {z} {w} R e = record { next = e; laid = lay_four o x y z w d R.fits }
+-- A part copied, as it stands in the output.
+pub wrote_part : (o n k : ℕ) (w x d : List ℕ) → Room o n d → k ≡ n → w ≡ x → length w ≡ length (take k (drop o d)) → Wrote o x d (o + n) (take o d ++ (w ++ drop k (drop o d)))
+wrote_part o n k w x d R e p h =
+    let f : o + n ≤ length d = R.fits in
+    let l : length w ≡ k = h ∙ length_part o k d (omega arith) in
+    record { next = omega (arith, ap length p); laid = lay_part o k w d (omega arith) h ∙ ap (λ (y : List ℕ). lay o y d) p }

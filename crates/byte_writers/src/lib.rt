@@ -6,51 +6,13 @@ ghost use Rattle.std.specs.Prelude.{[], ◌∷◌, ◌<◌};
 ghost use Rattle.parsing.specs.Bytes.{pair_bytes};
 ghost use Rattle.byte_writers.specs.Writes.{Room, Wrote};
 
-pub fn put_one(out: &mut [u8], o: usize, x: u8) -> usize
-    requires { Room o 1 out.old }
-    ensures { Wrote o (x ∷ []) out.old result out.new }
+// The bytes of an array.
+pub fn put<const N: usize>(out: &mut [u8], o: usize, bytes: [u8; N]) -> usize
+    requires { Room o N out.old }
+    ensures { Wrote o bytes.entry out.old result out.new }
 {
-    let next = o + 1;
-    out[o] = x;
-    next
-}
-
-pub fn put_two(out: &mut [u8], o: usize, x: u8, y: u8) -> usize
-    requires { Room o 2 out.old }
-    ensures { Wrote o (x ∷ y ∷ []) out.old result out.new }
-{
-    let second = o + 1;
-    let next = o + 2;
-    out[o] = x;
-    out[second] = y;
-    next
-}
-
-pub fn put_three(out: &mut [u8], o: usize, x: u8, y: u8, z: u8) -> usize
-    requires { Room o 3 out.old }
-    ensures { Wrote o (x ∷ y ∷ z ∷ []) out.old result out.new }
-{
-    let second = o + 1;
-    let third = o + 2;
-    let next = o + 3;
-    out[o] = x;
-    out[second] = y;
-    out[third] = z;
-    next
-}
-
-pub fn put_four(out: &mut [u8], o: usize, x: u8, y: u8, z: u8, w: u8) -> usize
-    requires { Room o 4 out.old }
-    ensures { Wrote o (x ∷ y ∷ z ∷ w ∷ []) out.old result out.new }
-{
-    let second = o + 1;
-    let third = o + 2;
-    let fourth = o + 3;
-    let next = o + 4;
-    out[o] = x;
-    out[second] = y;
-    out[third] = z;
-    out[fourth] = w;
+    let next = o + N;
+    out[o..next].copy_from_slice(&bytes);
     next
 }
 
@@ -62,5 +24,5 @@ pub fn put_pair(out: &mut [u8], o: usize, n: usize) -> usize
 {
     let low = (n % 256) as u8;
     let high = (n / 256) as u8;
-    put_two(out, o, low, high)
+    put(out, o, [low, high])
 }

@@ -12,26 +12,19 @@ pub fn byte_at(bytes: &[u8], at: usize) -> u8
     0
 }
 
-// The less of two numbers.
-pub fn least(a: usize, b: usize) -> usize
-    ensures { result ≡ min a b }
-{
-    if a < b { a } else { b }
-}
-
 // How many of the first n bytes of `part` there are.
 pub fn room(part: &[u8], n: usize) -> usize
     ensures front { Front result part.now }
     ensures value { result ≡ min n (length part.now) }
 {
-    least(n, part.len())
+    n.min(part.len())
 }
 
 // How many bytes so many arguments have.
 pub fn argument_bytes(count: u8) -> usize
     ensures { result ≡ 4 * count }
 {
-    4 * (count as usize)
+    4 * usize::from(count)
 }
 
 // The value of four bytes, the i-th four of `bytes`.
@@ -48,11 +41,9 @@ pub fn arguments(bytes: &[u8], args: &mut [i32]) -> usize
     ensures front { Front result args.new }
     ensures taken { Taken bytes.now args.old result args.new }
 {
-    let n = least(bytes.len() / 4, args.len());
-    let mut i = 0;
-    while i < n {
+    let n = (bytes.len() / 4).min(args.len());
+    for i in 0..n {
         args[i] = value_at(bytes, i);
-        i += 1;
     }
     n
 }

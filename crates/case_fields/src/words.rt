@@ -4,7 +4,6 @@ ghost use Rattle.memory.specs.Frame.{frame_size};
 ghost use Rattle.case_fields.specs.Record.{Front};
 ghost use Rattle.case_fields.specs.Words.{every};
 
-use crate::record::least;
 use memory::FRAME_SIZE;
 
 // What the words hold before a run.
@@ -19,23 +18,18 @@ pub fn lent(words: &[i32], depth: usize, delta: u8) -> usize
     if most / FRAME_SIZE + 3 < depth {
         return most;
     }
-    let want = FRAME_SIZE * depth + (delta as usize);
-    if want < 128 {
-        return 0;
-    }
-    least(want - 128, most)
+    let want = FRAME_SIZE * depth + usize::from(delta);
+    want.saturating_sub(128).min(most)
 }
 
 // Whether each of `words` is x.
 pub fn all_are(words: &[i32], x: i32) -> bool
     ensures { result ≡ every x words.now }
 {
-    let mut i = 0;
-    while i < words.len() {
-        if words[i] != x {
+    for w in words {
+        if *w != x {
             return false;
         }
-        i += 1;
     }
     true
 }

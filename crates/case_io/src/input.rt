@@ -2,23 +2,9 @@
 ghost use Rattle.std.specs.Prelude.{◌≤◌, ◌≡◌, IfOk, OnErr, drop};
 ghost use Rattle.case_fields.specs.Record.{Front};
 
+use reading::read_full;
 use std::io;
 use std::io::Read;
-
-// Reads until `part` is full or the input ends; the answer is how many bytes are there.
-fn read_full<R: Read>(reader: &mut R, part: &mut [u8]) -> io::Result<usize>
-    ensures { IfOk result (λ got. Front got part.new) }
-{
-    let mut done = 0;
-    while done < part.len() {
-        let got = reader.read(&mut part[done..])?;
-        if got == 0 {
-            return Ok(done);
-        }
-        done += got;
-    }
-    Ok(done)
-}
 
 // Fills `part` from the reader; false where the input ends first.
 pub fn read_whole<R: Read>(reader: &mut R, part: &mut [u8]) -> io::Result<bool> {

@@ -4,4 +4,5 @@
 
 pub mod input;
 pub mod print;
+pub mod records;
 pub mod words;

@@ -1,6 +1,5 @@
 // Answers to a writer. Nothing is said of what is printed.
-use casts::byte_count;
-use parsing::{Checked, Refusal};
+use parsing::Refusal;
 use std::io;
 use std::io::Write;
 
@@ -22,36 +21,29 @@ pub fn numbered<W: Write>(writer: &mut W, word: &[u8], n: u64) -> io::Result<()>
 
 // A signed value behind a space.
 pub fn value<W: Write>(writer: &mut W, z: i32) -> io::Result<()> {
-    if z < 0 {
-        say(writer, b" -")?;
-    } else {
-        say(writer, b" ")?;
-    }
-    write!(writer, "{}", decimal::magnitude(z))
+    write!(writer, " {z}")
 }
 
 // A refusal: its number and its place.
 pub fn refusal<W: Write>(writer: &mut W, r: Refusal) -> io::Result<()> {
-    numbered(writer, b"refused", r.number as u64)?;
-    numbered(writer, b" at", r.place as u64)
+    write!(writer, "{r}")
 }
 
 // The answer of a check.
-pub fn verdict<W: Write>(writer: &mut W, c: Checked) -> io::Result<()> {
+pub fn verdict<W: Write>(writer: &mut W, c: Result<(), Refusal>) -> io::Result<()> {
     match c {
-        Checked::Accepted => say(writer, b"accepted"),
-        Checked::Refused(r) => refusal(writer, r),
+        Ok(()) => say(writer, b"accepted"),
+        Err(r) => refusal(writer, r),
     }
 }
 
 // Bytes: two hexadecimal digits each, or in decimal, each behind a space.
 pub fn bytes<W: Write>(writer: &mut W, part: &[u8], hexadecimal: bool) -> io::Result<()> {
     for b in part {
-        let n = byte_count(*b);
         if hexadecimal {
-            write!(writer, "{n:02x}")?;
+            write!(writer, "{b:02x}")?;
         } else {
-            number(writer, n)?;
+            number(writer, u64::from(*b))?;
         }
     }
     Ok(())

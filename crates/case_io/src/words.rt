@@ -57,10 +57,8 @@ pub fn print_frames<W: Write>(
     k: usize,
 ) -> io::Result<()> {
     for (i, word) in words.iter().enumerate() {
-        if i / FRAME_SIZE < frames {
-            if i % FRAME_SIZE < k {
-                value(writer, *word)?;
-            }
+        if i / FRAME_SIZE < frames && i % FRAME_SIZE < k {
+            value(writer, *word)?;
         }
     }
     Ok(())
@@ -87,16 +85,14 @@ pub fn print_rest<W: Write>(
     frames: usize,
     depth: usize,
 ) -> io::Result<()> {
-    if frames <= depth {
-        if depth <= MAX_DEPTH {
-            let from = FRAME_SIZE * frames;
-            let to = FRAME_SIZE * depth;
-            if to <= words.len() {
-                if all_are(&words[from..to], 0) {
-                    say(writer, b" cleared")?;
-                }
-                print_kept(writer, &words[to..])?;
+    if frames <= depth && depth <= MAX_DEPTH {
+        let from = FRAME_SIZE * frames;
+        let to = FRAME_SIZE * depth;
+        if to <= words.len() {
+            if all_are(&words[from..to], 0) {
+                say(writer, b" cleared")?;
             }
+            print_kept(writer, &words[to..])?;
         }
     }
     Ok(())

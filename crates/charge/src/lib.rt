@@ -3,74 +3,57 @@
 #![tactic(auto)]
 
 ghost use Rattle.std.specs.Prelude.{◌≡◌};
-ghost use Rattle.parsing.specs.Refusals.{no_charge};
+ghost use Rattle.parsing.specs.declared.reason.Reason.TheVariants.{NoCharge};
 ghost use Rattle.parsing.specs.Parser.{verdict_of};
 ghost use Rattle.runs.specs.Stopped.{stopped_as};
-ghost use Rattle.runs.specs.Tells.{refuses, by_verdict};
+ghost use Rattle.runs.specs.Tells.{refuses, by_verdict, told};
 ghost use Rattle.bench.specs.Published as Bench;
 ghost use Rattle.controller.specs.Published as Controller;
-ghost use Rattle.charge.specs.Charge.{charge, with_extras, charge_as};
+ghost use Rattle.charge.specs.Charge.{charge, with_extras};
 
-use parsing::{Checked, Refusal, refusals};
+use parsing::{Reason, Refusal};
 use prices::cents_of;
 use runs::Stopped;
 
-// The largest number of 64 bits.
-const MAX_STEPS: u64 = 18446744073709551615;
-
-// The answer: cents, or a refusal.
-#[derive(Drop)]
-pub enum Charge {
-    Cents(u64),
-    Refused(Refusal),
-}
-
 // 18 at 0.
-fn no_charge() -> Charge
-    ensures { charge_as result ≡ refuses no_charge 0 }
+fn no_charge() -> Result<u64, Refusal>
+    ensures { told result ≡ refuses NoCharge 0 }
 {
-    Charge::Refused(Refusal {
-        number: refusals::NO_CHARGE,
+    Err(Refusal {
+        reason: Reason::NoCharge,
         place: 0,
     })
 }
 
 // The charge of a call's run that stopped so, with so many controller steps.
-fn charge_of(verdict: Checked, stopped: Stopped, steps: u64) -> Charge
-    ensures { charge_as result ≡ charge (by_verdict (verdict_of verdict) (record { stop = stopped_as stopped; steps = steps })) }
+#[tactic(auto, unfolding(crate::specs::Charge::charge))]
+fn charge_of(verdict: Result<(), Refusal>, stopped: Stopped, steps: u64) -> Result<u64, Refusal>
+    ensures { told result ≡ charge (by_verdict (verdict_of verdict) (record { stop = stopped_as stopped; steps = steps })) }
 {
-    let none = no_charge();
-    let price = Charge::Cents(cents_of(steps));
     match verdict {
-        Checked::Refused(_) => none,
-        Checked::Accepted => match stopped {
-            Stopped::Ended(_) => price,
-            Stopped::Spent => none,
-            Stopped::Deep => none,
+        Err(_) => no_charge(),
+        Ok(()) => match stopped {
+            Stopped::Ended(_) => Ok(cents_of(steps)),
+            Stopped::Spent => no_charge(),
+            Stopped::Deep => no_charge(),
         },
     }
 }
 
-// The charge of a run of the bench: from its steps and extras together.
-pub fn bench_charge(a: bench::machine::Answer) -> Charge
-    ensures { charge_as result ≡ charge (with_extras (Bench.meaning a)) }
+// The charge of a run of the bench, in cents: from its steps and extras together.
+#[tactic(auto, using(crate::specs::ChargeLaws::extras_uncharged))]
+pub fn bench_charge(a: bench::machine::Answer) -> Result<u64, Refusal>
+    ensures { told result ≡ charge (with_extras (Bench.meaning a)) }
 {
-    let verdict = a.verdict;
-    let stopped = a.stopped;
-    let steps = a.steps;
-    let extras = a.extras;
-    if MAX_STEPS - steps < extras {
-        return no_charge();
+    match a.steps.checked_add(a.extras) {
+        Some(steps) => charge_of(a.verdict, a.stopped, steps),
+        None => no_charge(),
     }
-    let sum = steps + extras;
-    charge_of(verdict, stopped, sum)
 }
 
-// The charge of a run of the controller: from its own count of steps.
-pub fn controller_charge(a: controller::machine::Answer) -> Charge
-    ensures { charge_as result ≡ charge (Controller.meaning a) }
+// The charge of a run of the controller, in cents: from its own count of steps.
+pub fn controller_charge(a: controller::machine::Answer) -> Result<u64, Refusal>
+    ensures { told result ≡ charge (Controller.meaning a) }
 {
-    let verdict = a.verdict;
-    let stopped = a.stopped;
-    charge_of(verdict, stopped, a.steps)
+    charge_of(a.verdict, a.stopped, a.steps)
 }

@@ -7,9 +7,10 @@
 use case_fields::record::byte_at;
 use case_io::input::read_whole;
 use case_io::print::{numbered, refusal, say};
+use case_io::records::run_records;
 use casts::{double_word, word};
-use charge::{Charge, bench_charge, controller_charge};
-use parsing::{Checked, Refusal, refusals};
+use charge::{bench_charge, controller_charge};
+use parsing::{Reason, Refusal};
 use runs::{End, Stopped};
 use std::io;
 use std::io::{Read, Write};
@@ -17,15 +18,15 @@ use std::io::{Read, Write};
 // Any refusal of a call.
 fn some_refusal() -> Refusal {
     Refusal {
-        number: refusals::START_ARITY,
+        reason: Reason::StartArity,
         place: 0,
     }
 }
 
-fn verdict_of(b: u8) -> Checked {
+fn verdict_of(b: u8) -> Result<(), Refusal> {
     match b {
-        0 => Checked::Accepted,
-        _ => Checked::Refused(some_refusal()),
+        0 => Ok(()),
+        _ => Err(some_refusal()),
     }
 }
 
@@ -56,7 +57,12 @@ fn count(field: &[u8]) -> u64 {
 }
 
 // The charge of a bench's answer, registers and variables being those of a refused call.
-fn of_bench(verdict: Checked, stopped: Stopped, steps: u64, extras: u64) -> Charge {
+fn of_bench(
+    verdict: Result<(), Refusal>,
+    stopped: Stopped,
+    steps: u64,
+    extras: u64,
+) -> Result<u64, Refusal> {
     let none = bench::machine::refused(some_refusal());
     let regs = none.regs;
     let vars = none.vars;
@@ -71,7 +77,11 @@ fn of_bench(verdict: Checked, stopped: Stopped, steps: u64, extras: u64) -> Char
 }
 
 // The charge of a controller's answer, registers and slots being those of a refused call.
-fn of_controller(verdict: Checked, stopped: Stopped, steps: u64) -> Charge {
+fn of_controller(
+    verdict: Result<(), Refusal>,
+    stopped: Stopped,
+    steps: u64,
+) -> Result<u64, Refusal> {
     let none = controller::machine::refused(some_refusal());
     let regs = none.regs;
     let slots = none.slots;
@@ -84,14 +94,10 @@ fn of_controller(verdict: Checked, stopped: Stopped, steps: u64) -> Charge {
     })
 }
 
-fn print_charge<W: Write>(writer: &mut W, c: Charge) -> io::Result<()> {
+fn print_charge<W: Write>(writer: &mut W, c: Result<u64, Refusal>) -> io::Result<()> {
     match c {
-        Charge::Cents(n) => {
-            numbered(writer, b"cents", n)?;
-        }
-        Charge::Refused(r) => {
-            refusal(writer, r)?;
-        }
+        Ok(n) => numbered(writer, b"cents", n)?,
+        Err(r) => refusal(writer, r)?,
     }
     say(writer, b"\n")
 }
@@ -115,12 +121,5 @@ fn run_record<R: Read, W: Write>(reader: &mut R, writer: &mut W) -> io::Result<b
 }
 
 fn main(rt: HostRuntime) -> io::Result<()> {
-    let mut reader = rt.stdin();
-    let mut writer = rt.stdout();
-    for _ in 0..100000 {
-        if !run_record(&mut reader, &mut writer)? {
-            break;
-        }
-    }
-    Ok(())
+    run_records(&mut rt.stdin(), &mut rt.stdout(), 100000, run_record)
 }

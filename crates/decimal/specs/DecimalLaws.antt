@@ -1,10 +1,10 @@
 -- Laws of words and numbers: how long they are, and that two writes, one behind the other, are one.
-use Rattle.std.specs.Prelude.{ℕ, zero, suc, ◌+◌, ◌-◌, ◌/◌, ◌%◌, ◌≤◌, ◌<◌, ◌≡◌, refl, Bool, true, false, cond, List, [], ◌∷◌, ◌++◌, ltb, ℤ, pos, negsuc, nat_abs, length, set, get_or}
-use Rattle.std.proofs.Common.{arith, zero-add, sym, ap, ◌∙◌, subst, length-append, ltb-true, lt-ltb, le-ltb}
+use Rattle.std.specs.Prelude.{ℕ, zero, suc, ◌+◌, ◌-◌, ◌/◌, ◌%◌, ◌≤◌, ◌<◌, ◌≡◌, refl, Bool, true, false, cond, List, [], ◌∷◌, ◌++◌, ltb, ℤ, pos, negsuc, nat_abs, length, take, drop, set}
+use Rattle.std.proofs.Common.{arith, sym, ap, ◌∙◌, subst, length-append, ltb-true, lt-ltb, le-ltb, SFits, to_z, of_z, to_z-of_z}
+use Rattle.std.specs.Int.{w32}
 use Rattle.std.specs.Int.Signed.{lt_z}
-use Rattle.std.proofs.Math.Seq.{take-length}
 use Rattle.memory.specs.Lay.{lay}
-use Rattle.memory.specs.LayLaws.{length_lay, join, lay_one, Copied, copied_more, copied_all}
+use Rattle.memory.specs.LayLaws.{length_lay, join, lay_one, lay_part}
 use Rattle.decimal.specs.Decimal.{digits, decimal, signed, numbered}
 use Rattle.decimal.specs.WroteText.{WroteText}
 
@@ -30,14 +30,10 @@ wrote_then {at} {r} {r₂} {a} {b} {d} {d₁} {d₂} k l =
 pub wrote_one : (at x : ℕ) (d : List ℕ) → at < length d → WroteText at (x ∷ []) d (at + 1) (set d at x)
 wrote_one at x d h = record { same = lay_one at x d h; past = refl; within = omega arith }
 
--- A word, copied byte by byte.
-pub word_more : (at i : ℕ) (word d₀ d : List ℕ) → Copied 0 at (length word) i word d₀ d → i < length word → Copied 0 at (length word) (i + 1) word d₀ (set d (at + i) (get_or word i 0))
-word_more at i word d₀ d k h = copied_more 0 at (length word) i word d₀ d 0 (get_or word i 0) (ap (λ (j : ℕ). get_or word j 0) (sym (zero-add i))) k h
-
-pub wrote_word : (at i : ℕ) (word d d' : List ℕ) → Copied 0 at (length word) i word d d' → length word ≤ i → WroteText at word d (at + length word) d'
-wrote_word at i word d d' k h =
-    let l : at + length word ≤ length d = k.target in
-    record { same = copied_all 0 at (length word) i word d d' k h ∙ ap (λ (w : List ℕ). lay at w d) (take-length word); past = refl; within = l }
+-- A word, copied over a part of the lent bytes.
+pub wrote_word : (at k : ℕ) (w word d : List ℕ) → at + length word ≤ length d → k ≡ length word → w ≡ word → length w ≡ length (take k (drop at d)) → WroteText at word d (at + length word) (take at d ++ (w ++ drop k (drop at d)))
+wrote_word at k w word d h q p e =
+    record { same = lay_part at k w d (omega arith) e ∙ ap (λ (x : List ℕ). lay at x d) p; past = refl; within = h }
 
 -- The digits, as the code has them.
 pub digits_last : (k n : ℕ) → k ≡ 0 → (48 + n % 10) ∷ [] ≡ digits k n
@@ -92,6 +88,10 @@ wrote_room {at} {r} {w} {d} {d'} n m k h l =
     let p : r ≡ at + length w = k.past in
     let e : length d' ≡ length d = wrote_long k in
     omega arith
+
+-- A test of a value's sign, as the code has it.
+pub sign_of : (v : ℤ) (t : Bool) → SFits w32 v → lt_z (to_z w32 (of_z w32 v)) (pos 0) ≡ t → lt_z v (pos 0) ≡ t
+sign_of v t h e = ap (λ (x : ℤ). lt_z x (pos 0)) (sym (to_z-of_z h)) ∙ e
 
 -- A value, as the code has it: its sign, and its size without the sign.
 pub signed_minus : (v : ℤ) (n : ℕ) → n ≡ nat_abs v → lt_z v (pos 0) ≡ true → 45 ∷ decimal n ≡ signed v

@@ -3,4 +3,3 @@ pub mod Decimal
 pub mod WroteText
 -- Laws.
 pub mod DecimalLaws
-pub mod SizeLaws

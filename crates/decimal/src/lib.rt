@@ -11,13 +11,9 @@ pub fn put_bytes(out: &mut [u8], at: usize, word: &[u8]) -> usize
     requires { at + length word.now ≤ length out.old }
     ensures { WroteText at word.now out.old result out.new }
 {
-    let mut i = 0;
-    while i < word.len() {
-        let target = at + i;
-        out[target] = word[i];
-        i += 1;
-    }
-    at + word.len()
+    let next = at + word.len();
+    out[at..next].copy_from_slice(word);
+    next
 }
 
 // One digit.
@@ -25,8 +21,7 @@ fn put_digit(out: &mut [u8], at: usize, n: u64) -> usize
     requires { (at < length out.old) × (n < 10) }
     ensures { WroteText at ((48 + n) ∷ []) out.old result out.new }
 {
-    let digit = 48 + n;
-    out[at] = digit as u8;
+    out[at] = (48 + n) as u8;
     at + 1
 }
 
@@ -41,8 +36,7 @@ fn put_digits(out: &mut [u8], at: usize, k: usize, n: u64) -> usize
     if n < 10 {
         return put_digit(out, at, n);
     }
-    let less = k - 1;
-    let next = put_digits(out, at, less, n / 10);
+    let next = put_digits(out, at, k - 1, n / 10);
     put_digit(out, next, n % 10)
 }
 
@@ -58,11 +52,7 @@ fn put_decimal(out: &mut [u8], at: usize, n: u64) -> usize
 pub fn magnitude(v: i32) -> u64
     ensures { result ≡ nat_abs v }
 {
-    if v < 0 {
-        let wide = 0 - (v as i64);
-        return wide as u64;
-    }
-    v as u64
+    u64::from(v.unsigned_abs())
 }
 
 // A value in decimal.

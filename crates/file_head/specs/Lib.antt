@@ -1,4 +1,2 @@
--- Reading the head of a file; its definition is `head` of crate parsing (Fields).
-pub mod Turn
--- Laws.
+-- Reading the head of a file: its definition is `head` of crate parsing (Fields). Laws.
 pub mod HeadLaws

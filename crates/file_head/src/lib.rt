@@ -5,103 +5,75 @@
 ghost use Rattle.std.specs.Prelude.{◌≡◌};
 ghost use Rattle.parsing.specs.Parser.{past_of};
 ghost use Rattle.parsing.specs.Fields.{marked, version, within, head};
-ghost use Rattle.file_head.specs.Turn.{in_turn};
 
-use parsing::{Refusal, Scan, refusals};
+use parsing::{Reason, Refusal};
 
 // The mark at the head of a file: its bytes are judged one by one.
-fn mark_end(file: &[u8], mark: &[u8]) -> Scan
+fn mark_end(file: &[u8], mark: &[u8]) -> Result<usize, Refusal>
     ensures { result ≡ past_of (marked mark.now file.now 0) }
 {
-    let mut i = 0;
-    while i < mark.len() {
+    for (i, byte) in mark.iter().enumerate() {
         if file.len() <= i {
-            return Scan::Stopped(Refusal {
-                number: refusals::ENDS_EARLY,
+            return Err(Refusal {
+                reason: Reason::EndsEarly,
                 place: file.len(),
             });
         }
-        if file[i] != mark[i] {
-            return Scan::Stopped(Refusal {
-                number: refusals::WRONG_MARK,
+        if file[i] != *byte {
+            return Err(Refusal {
+                reason: Reason::WrongMark,
                 place: i,
             });
         }
-        i += 1;
     }
-    Scan::Past(i)
+    Ok(mark.len())
 }
 
 // The version, 1 or 2, judged once it is whole.
-fn version_end(file: &[u8], at: usize) -> Scan
+fn version_end(file: &[u8], at: usize) -> Result<usize, Refusal>
     ensures { result ≡ past_of (version file.now at) }
 {
     let n = file.len();
     if n <= at {
-        return Scan::Stopped(Refusal {
-            number: refusals::ENDS_EARLY,
+        return Err(Refusal {
+            reason: Reason::EndsEarly,
             place: n,
         });
     }
     let past = at + 2;
     if n < past {
-        return Scan::Stopped(Refusal {
-            number: refusals::ENDS_EARLY,
+        return Err(Refusal {
+            reason: Reason::EndsEarly,
             place: n,
         });
     }
-    let high = at + 1;
-    if file[at] < 1 {
-        return Scan::Stopped(Refusal {
-            number: refusals::WRONG_VERSION,
+    if file[at] < 1 || 2 < file[at] || file[at + 1] != 0 {
+        return Err(Refusal {
+            reason: Reason::WrongVersion,
             place: at,
         });
     }
-    if 2 < file[at] {
-        return Scan::Stopped(Refusal {
-            number: refusals::WRONG_VERSION,
-            place: at,
-        });
-    }
-    if file[high] != 0 {
-        return Scan::Stopped(Refusal {
-            number: refusals::WRONG_VERSION,
-            place: at,
-        });
-    }
-    Scan::Past(past)
+    Ok(past)
 }
 
 // The size, judged against the limit; `at` is where reading goes on.
-fn size_end(file: &[u8], at: usize, limit: usize) -> Scan
+fn size_end(file: &[u8], at: usize, limit: usize) -> Result<usize, Refusal>
     ensures { result ≡ past_of (within limit file.now at) }
 {
     if limit < file.len() {
-        return Scan::Stopped(Refusal {
-            number: refusals::FILE_TOO_LONG,
+        return Err(Refusal {
+            reason: Reason::FileTooLong,
             place: limit,
         });
     }
-    Scan::Past(at)
-}
-
-// Two parts in turn: a refusal of the first stands, else it is what the second finds.
-fn in_turn(first: Scan, second: Scan) -> Scan
-    ensures { result ≡ in_turn first second }
-{
-    match first {
-        Scan::Stopped(r) => Scan::Stopped(r),
-        Scan::Past(_) => second,
-    }
+    Ok(at)
 }
 
 // The head of a file: its mark, its version, then its size against the limit.
-pub fn head_end(file: &[u8], mark: &[u8], limit: usize) -> Scan
+pub fn head_end(file: &[u8], mark: &[u8], limit: usize) -> Result<usize, Refusal>
     ensures { result ≡ past_of (head mark.now limit file.now 0) }
 {
-    let at = mark.len();
-    let marked = mark_end(file, mark);
-    let version = version_end(file, at);
-    let size = size_end(file, at + 2, limit);
-    in_turn(marked, in_turn(version, size))
+    let marked = mark_end(file, mark)?;
+    let versioned = version_end(file, marked)?;
+    size_end(file, versioned, limit)
 }

@@ -1,11 +1,10 @@
 -- The whole merged file: its size, its parts, and what is asked of those who write it.
-use Rattle.std.specs.Prelude.{ℕ, ◌+◌, ◌-◌, ◌≤◌, ◌≡◌, refl, leb, eqb, length, drop}
+use Rattle.parsing.specs.declared.Refusal.{Refusal}
+use Rattle.std.specs.Prelude.{ℕ, ◌+◌, ◌-◌, ◌≤◌, ◌≡◌, refl, leb, eqb, length, drop, Ok, Result}
 use Rattle.std.proofs.Common.{arith, sym, ◌∙◌, leb-true, eqb-true, length-append}
 use Rattle.std.proofs.Math.Path.{ap}
 use mathlib.Core.List.{List, [], ◌∷◌, ◌++◌, map, append-nil}
 use Rattle.std.proofs.Math.Option.{none, some}
-use Rattle.parsing.specs.declared.Checked.{Checked}
-use Rattle.parsing.specs.declared.Checked.TheVariants.{Accepted}
 use Rattle.parsing.specs.Parser.{Verdict, accepted, verdict_of, or_else, joined}
 use Rattle.parsing.specs.Fields.{version_of}
 use Rattle.parsing.specs.ParserLaws.{joined_append}
@@ -16,14 +15,13 @@ use Rattle.semantics.proofs.MergeLaws.{merged_length}
 use Rattle.procedure_names.specs.Writing.{block_bytes, receiver_bytes, labelled_bytes, function_bytes, writing}
 use Rattle.procedure_file.specs.Check.{program_of}
 use Rattle.procedure_file.specs.FileInvariant.{FileInvariant}
-use Rattle.procedure_file.proofs.FileInvariantLaws.{invariant}
 use Rattle.procedure_file.proofs.AcceptedLaws.{laid_reads}
-use Rattle.procedure_file.proofs.LoadedLaws.{loaded_invariant}
+use Rattle.procedure_file.specs.Loaded.{Laid}
 use Rattle.byte_writers.specs.Writes.{Room}
 use Rattle.byte_writers.specs.WriteLaws.{Rest, rest_from_lem}
 use Rattle.merge.specs.Merged.{merged_of, version_verdict, size_verdict, files_verdict}
 use Rattle.merge.specs.Parts.{head_bytes, stretch}
-use Rattle.merge.specs.Asked.{BothLoaded, FewFunctions}
+use Rattle.merge.specs.Asked.{FewFunctions}
 use Rattle.merge.proofs.StretchLaws.{stretch_is}
 
 -- ── Renumbered, the writing is as long as before ────────────────────────────────────────────────
@@ -109,32 +107,31 @@ unfolding merged
 merged_version [] Q h = absurd (omega arith)
 merged_version (F ∷ Fs) Q h = refl
 
-module _ {s t starts : List ℕ} (B : BothLoaded s t starts) where
-  first_invariant : FileInvariant s
-  first_invariant = invariant s B.laid.bytes B.is_accepted
-
+-- Two accepted files.
+module _ {s t : List ℕ} (F : FileInvariant s) (G : FileInvariant t) where
   pub first_long : 6 ≤ length s
-  first_long = (merged_size s t first_invariant (loaded_invariant B.second)).0
+  first_long = (merged_size s t F G).0
 
   pub second_long : 6 ≤ length t
-  second_long = (merged_size s t first_invariant (loaded_invariant B.second)).1
+  second_long = (merged_size s t F G).1
 
   pub size_is : length s + (length t - 6) ≡ length (merged_of s t)
-  size_is = (merged_size s t first_invariant (loaded_invariant B.second)).2
+  size_is = (merged_size s t F G).2
 
   -- The merged file has the first's version.
-  version_is_lem : program_version (merged (program_of s) (program_of t)) ≡ version_of s
-  version_is_lem = let least = (laid_reads B.laid).least in merged_version (program_of s) (program_of t) least ∙ first_invariant.version 0 (omega (arith, least))
+  version_is_lem : Laid s → program_version (merged (program_of s) (program_of t)) ≡ version_of s
+  version_is_lem L = let least = (laid_reads L).least in merged_version (program_of s) (program_of t) least ∙ F.version 0 (omega (arith, least))
 
   -- The head, the first file's functions, the second's.
-  pub file_rest : (version all kept : ℕ) {d : List ℕ} → version ≡ version_of s → all ≡ length (merged (program_of s) (program_of t)) → kept ≡ length (program_of s) → Room 0 (length (merged_of s t)) d
+  pub file_rest : Laid s → (version all kept : ℕ) {d : List ℕ} → version ≡ version_of s → all ≡ length (merged (program_of s) (program_of t)) → kept ≡ length (program_of s)
+      → Room 0 (length (merged_of s t)) d
       → Rest 0 (merged_of s t) d 0 (head_bytes version all ++ (stretch s 6 (length s) ++ joined function_bytes (map (renumbered_function kept) (program_of t)))) d
-  file_rest version all kept ev ea ek R = rest_from_lem R (rw (ev, ea, ek, ← version_is_lem, functions_stand first_invariant) (parts_are s t))
+  file_rest L version all kept ev ea ek R = rest_from_lem R (rw (ev, ea, ek, ← version_is_lem L, functions_stand F) (parts_are s t))
 
   -- What was counted: the functions of each file.
   module _ {m k : ℕ} (em : m ≡ length (program_of s)) (ek : k ≡ length (program_of t)) where
     pub few : (m ≤ 32) × (k ≤ 32)
-    few = (omega (arith, first_invariant.most), omega (arith, (loaded_invariant B.second).most))
+    few = (omega (arith, F.most), omega (arith, G.most))
 
     pub count_is_lem : m + k ≡ length (merged (program_of s) (program_of t))
     count_is_lem = omega (arith, merged_length (program_of s) (program_of t))
@@ -160,13 +157,13 @@ fitting s t room e =
     let a = or_accepted _ _ v.1 in
     let b = or_accepted _ _ a.1 in
     record {
-      same_version = eqb-true (version_of s) (version_of t) (unless_accepted (eqb (version_of s) (version_of t)) 2 3 v.0);
-      function_bound = leb-true n 32 (unless_accepted (leb n 32) 22 0 a.0);
-      byte_bound = leb-true m 32768 (unless_accepted (leb m 32768) 22 0 b.0);
-      room_bound = leb-true m room (unless_accepted (leb m room) 16 0 b.1);
+      same_version = eqb-true (version_of s) (version_of t) (unless_accepted (eqb (version_of s) (version_of t)) _ _ v.0);
+      function_bound = leb-true n 32 (unless_accepted (leb n 32) _ _ a.0);
+      byte_bound = leb-true m 32768 (unless_accepted (leb m 32768) _ _ b.0);
+      room_bound = leb-true m room (unless_accepted (leb m room) _ _ b.1);
     }
 
-pub fitting_room : (s t d : List ℕ) {c : Checked} → verdict_of c ≡ files_verdict s t (length d) → c ≡ Accepted → FewFunctions s t × Room 0 (length (merged_of s t)) d
+pub fitting_room : (s t d : List ℕ) {c : Result (Unit {0}) Refusal} → verdict_of c ≡ files_verdict s t (length d) → c ≡ (Ok tt) → FewFunctions s t × Room 0 (length (merged_of s t)) d
 fitting_room s t d e q =
     let f = fitting s t (length d) (sym e ∙ ap verdict_of q) in
     (f.function_bound, record { fits = omega (arith, f.room_bound); small = omega (arith, f.byte_bound) })

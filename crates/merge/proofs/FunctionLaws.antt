@@ -14,8 +14,8 @@ use Rattle.procedure_layout.specs.Layout.{bytes_before}
 use Rattle.procedure_names.specs.Writing.{block_bytes, receiver_bytes, labelled_bytes, function_bytes}
 use Rattle.procedure_file.specs.Check.{program_of}
 use Rattle.procedure_file.specs.Places.{label_place, start_of, no_labelled, block_of}
-use Rattle.procedure_file.specs.Loaded.{Laid, Loaded}
-use Rattle.procedure_file.proofs.LoadedLaws.{loaded_invariant}
+use Rattle.procedure_file.specs.Loaded.{Laid}
+use Rattle.procedure_file.specs.FileInvariant.{FileInvariant}
 use Rattle.procedure_file.proofs.AcceptedLaws.{laid_reads}
 use Rattle.procedure_file.specs.PlacesLaws.{version_is_lem, label_at}
 use Rattle.procedure_file.proofs.TableLaws.{start_room, start_behind, before_room}
@@ -43,34 +43,30 @@ label_head_lem s L f there (suc l) x b some known ex eb =
     ∙ ap (λ (v : ℕ). B.handler ∷ receiver_bytes v B.receiver) (sym (version_is_lem s L.bytes P (laid_reads L) f there)))
 
 -- The block with label l of function f, which starts at x.
-module _ {s starts : List ℕ} (L : Loaded s starts) {f : ℕ} (there : f < length (program_of s)) {l : ℕ} (block : l ≤ length (function_of (program_of s) f).blocks) {x : ℕ}
+module _ {s : List ℕ} (K : FileInvariant s) {f : ℕ} (there : f < length (program_of s)) {l : ℕ} (block : l ≤ length (function_of (program_of s) f).blocks) {x : ℕ}
     (ex : x ≡ start_of (program_of s) f l) where
   pub block_stands : OperationInFile s x
-  block_stands =
-      let F = loaded_invariant L in
-      subst (OperationInFile s) (sym ex) (record { invariant = F; function = f; stands = F.start f l there block })
+  block_stands = subst (OperationInFile s) (sym ex) (record { invariant = K; function = f; stands = K.start f l there block })
 
   block_is : (n : ℕ) → rest_bytes s x n ≡ block_bytes (renumbered_block n (block_of (function_of (program_of s) f) l))
   unfolding rest_bytes
-  block_is n = ap (λ (k : ℕ). rest_bytes s k n) ex ∙ ap (λ (b : Block). block_bytes (renumbered_block n b)) ((loaded_invariant L).block f l there block)
+  block_is n = ap (λ (k : ℕ). rest_bytes s k n) ex ∙ ap (λ (b : Block). block_bytes (renumbered_block n b)) (K.block f l there block)
 
   -- The b bytes before it, then its operations.
-  module _ (labelled : 1 ≤ l) {b : ℕ} (eb : b ≡ bytes_before (version_of s)) where
+  module _ (L : Laid s) (labelled : 1 ≤ l) {b : ℕ} (eb : b ≡ bytes_before (version_of s)) where
     pub head_fits : (b ≤ x) × (x ≤ length s)
-    head_fits =
-        let T = L.tabled.laid in
-        (before_room s T f there l x b labelled block ex eb, omega (arith, (start_room s T f there l x block ex).1))
+    head_fits = (before_room s L f there l x b labelled block ex eb, omega (arith, (start_room s L f there l x block ex).1))
 
     pub label_rest : (n : ℕ) {o : ℕ} {d : List ℕ} → Room o (length (label_bytes s f l n)) d → Rest o (label_bytes s f l n) d o (stretch s (x - b) x ++ rest_bytes s x n) d
     unfolding label_bytes
-    label_rest n R = rest_from_lem R (rw (label_head_lem s L.tabled.laid f there l x b labelled block ex eb, block_is n))
+    label_rest n R = rest_from_lem R (rw (label_head_lem s L f there l x b labelled block ex eb, block_is n))
 
 -- The counts p, q and k of function f, then its entry block, which starts at x.
-pub entry_rest : {s starts : List ℕ} → Loaded s starts → {f : ℕ} → f < length (program_of s) → {x : ℕ} → x ≡ start_of (program_of s) f 0 → (p q k n : ℕ) {o : ℕ} {d : List ℕ}
+pub entry_rest : {s : List ℕ} → FileInvariant s → {f : ℕ} → f < length (program_of s) → {x : ℕ} → x ≡ start_of (program_of s) f 0 → (p q k n : ℕ) {o : ℕ} {d : List ℕ}
     → p ≡ (function_of (program_of s) f).params → q ≡ (function_of (program_of s) f).locals → k ≡ length (function_of (program_of s) f).blocks → Room o (length (entry_bytes s f n)) d
     → Rest o (entry_bytes s f n) d o ((p ∷ q ∷ k ∷ []) ++ rest_bytes s x n) d
 unfolding entry_bytes
-entry_rest L there ex p q k n ep eq ek R = rest_from_lem R (rw (ep, eq, ek, block_is L there {l = 0} (omega arith) ex n))
+entry_rest K there ex p q k n ep eq ek R = rest_from_lem R (rw (ep, eq, ek, block_is K there {l = 0} (omega arith) ex n))
 
 -- The labelled blocks of function f behind the first l.
 unfoldable pub labels_from : List ℕ → ℕ → ℕ → ℕ → List ℕ

@@ -1,17 +1,9 @@
 -- What the functions that write the merged file are asked.
 use Rattle.std.specs.Prelude.{ℕ, ◌+◌, ◌≤◌, ◌<◌, ◌≡◌, List, length, get_or}
 use Rattle.semantics.specs.Merge.{merged}
-use Rattle.parsing.specs.Parser.{accepted}
 use Rattle.procedure_layout.specs.Layout.{max_functions}
-use Rattle.procedure_file.specs.Check.{check_of, program_of}
-use Rattle.procedure_file.specs.Loaded.{Laid, Loaded}
+use Rattle.procedure_file.specs.Check.{program_of}
 use Rattle.procedure_file.specs.FileInvariant.{FileInvariant, OperationsAt}
-
--- Two accepted files, and the second's table.
-pub record BothLoaded (s t starts : List ℕ) : Type 0 where
-  pub laid : Laid s
-  pub is_accepted : check_of s ≡ accepted
-  pub second : Loaded t starts
 
 -- The merged file has not too many functions.
 abbrev pub FewFunctions : List ℕ → List ℕ → Type 0

@@ -1,35 +1,28 @@
 -- Document 02, Slip 4: "Merge two accepted files". The answer and the output for every input.
 use Rattle.std.specs.Prelude.{ℕ, ◌≡◌, List, leb, eqb, length}
 use Rattle.semantics.specs.Merge.{merged}
-use Rattle.parsing.specs.Refusals.{wrong_version, no_room, merged_too_large}
+use Rattle.parsing.specs.declared.reason.Reason.TheVariants.{WrongVersion, NoRoom, MergedTooLarge}
 use Rattle.parsing.specs.Parser.{Verdict, accepted, or_else, refused_unless}
 use Rattle.parsing.specs.Fields.{version_of}
 use Rattle.parsing.specs.Bytes.{Bytes}
-use Rattle.runs.specs.Tells.{Tells, refuses, tells, by_verdict, leaves}
+use Rattle.runs.specs.Tells.{Tells, by_verdict, leaves}
 use Rattle.procedure_layout.specs.Layout.{file_limit, max_functions}
 use Rattle.procedure_names.specs.Writing.{writing}
 use Rattle.procedure_file.specs.Check.{check_of, program_of}
-use Rattle.merge.specs.declared.Merged.{Merged}
-use Rattle.merge.specs.declared.Merged.TheVariants.{Written, Refused}
 
 -- The merged file: the writing of the two files' programs, merged.
 unfoldable pub merged_of : List ℕ → List ℕ → List ℕ
 merged_of s t = writing (merged (program_of s) (program_of t))
 
--- The answer in the documents' numbers: the bytes of the merged file, or a refusal's number and place.
-abbrev pub meaning : Merged → Tells ℕ
-meaning (Written n) = tells n
-meaning (Refused r) = refuses r.number r.place
-
 -- "Merging two versions is refused 2 at place 3 of the second, just before 22" (document 02, Slip 7).
 unfoldable pub version_verdict : List ℕ → List ℕ → Verdict
-version_verdict s t = refused_unless (eqb (version_of s) (version_of t)) wrong_version 3
+version_verdict s t = refused_unless (eqb (version_of s) (version_of t)) WrongVersion 3
 
 -- "22 when the merged file would have over 32 functions or 32,768 bytes, at 0 ..; then 16 when the lent output is too short."
 unfoldable pub size_verdict : (functions bytes room : ℕ) → Verdict
 size_verdict functions bytes room =
-    or_else (refused_unless (leb functions max_functions) merged_too_large 0)
-    (or_else (refused_unless (leb bytes file_limit) merged_too_large 0) (refused_unless (leb bytes room) no_room 0))
+    or_else (refused_unless (leb functions max_functions) MergedTooLarge 0)
+    (or_else (refused_unless (leb bytes file_limit) MergedTooLarge 0) (refused_unless (leb bytes room) NoRoom 0))
 
 -- Of two accepted files.
 unfoldable pub files_verdict : List ℕ → List ℕ → ℕ → Verdict

@@ -1,5 +1,6 @@
 -- What was read is what was written: the bytes from an offset on are the writing of what was read, and what is left.
-use Rattle.std.specs.Prelude.{ℕ, zero, suc, ◌+◌, ◌*◌, ◌≤◌, ◌<◌, ◌≡◌, Bool, List, [], ◌∷◌, ◌++◌, eqb, take, drop}
+use Rattle.parsing.specs.declared.reason.Reason.TheVariants.{FileTooLong, LeftOver, WrongMark, WrongVersion}
+use Rattle.std.specs.Prelude.{ℕ, zero, suc, ◌+◌, ◌*◌, ◌≤◌, ◌<◌, ◌≡◌, Bool, List, [], ◌∷◌, ◌++◌, eqb, take, drop, Ok}
 use Rattle.std.proofs.Math.Path.{refl, subst}
 use Rattle.std.proofs.Common.{sym, ap, ◌∙◌, append_assoc, add-one, length-append, drop-cons}
 use Rattle.std.proofs.Math.Bool.{true, false, cond}
@@ -7,7 +8,6 @@ use native.Mathlib.Omega.{arith}
 use borrow.Author.Tests.{ltb-true, ltb-false, leb-true, eqb-true}
 use Rattle.std.proofs.Math.Dec.{leb, ltb}
 use Rattle.std.proofs.Math.ListN.{length, get_or}
-use Rattle.parsing.specs.declared.Scan.TheVariants.{Past}
 use Rattle.parsing.specs.Parser.{refusal, Parsed, read, refuse, Parser, and_then, joined, past_of}
 use Rattle.parsing.specs.Fields.{cut, marked, IsVersion, is_version, version, within, head, ended}
 use Rattle.parsing.specs.ParserLaws.{impossible, sequence, version_true, ReadMany, none, one}
@@ -42,7 +42,7 @@ module _ (s : List ℕ) where
     where
       go : (t v : Bool) → ltb at (length s) ≡ t → eqb (get_or s at 0) m ≡ v
           → (marked ms s (at + 1) ≡ read u next → BytesAt s (at + 1) next ms)
-          → cond t (cond v (marked ms s (at + 1)) (refuse (refusal 1 at))) (refuse (cut s)) ≡ read u next → BytesAt s at next (m ∷ ms)
+          → cond t (cond v (marked ms s (at + 1)) (refuse (refusal WrongMark at))) (refuse (cut s)) ≡ read u next → BytesAt s at next (m ∷ ms)
       go true true i j f w =
           let q = eqb-true (get_or s at 0) m j in
           rw (← q) (bytes_at_cons (ltb-true at (length s) i) (f w))
@@ -54,7 +54,7 @@ module _ (s : List ℕ) where
   bytes_at_version at {u} {next} e = go (leb (at + 2) (length s)) (is_version (get_or s at 0 + 256 * get_or s (at + 1) 0)) refl refl e
     where
       go : (t v : Bool) → leb (at + 2) (length s) ≡ t → is_version (get_or s at 0 + 256 * get_or s (at + 1) 0) ≡ v
-          → cond t (cond v (read tt (at + 2)) (refuse (refusal 2 at))) (refuse (cut s)) ≡ read u next → BytesAt s at next (get_or s at 0 ∷ 0 ∷ []) × IsVersion (get_or s at 0)
+          → cond t (cond v (read tt (at + 2)) (refuse (refusal WrongVersion at))) (refuse (cut s)) ≡ read u next → BytesAt s at next (get_or s at 0 ∷ 0 ∷ []) × IsVersion (get_or s at 0)
       go true true i j w =
           let h = leb-true (at + 2) (length s) i in
           let n = version_true (get_or s at 0 + 256 * get_or s (at + 1) 0) j in
@@ -71,7 +71,7 @@ module _ (s : List ℕ) where
   read_within : (limit at : ℕ) {u : Unit {0}} {next : ℕ} → within limit s at ≡ read u next → (length s ≤ limit) × (at ≡ next)
   read_within limit at {u} {next} e = go (leb (length s) limit) refl e
     where
-      go : (t : Bool) → leb (length s) limit ≡ t → cond t (read tt at) (refuse (refusal 15 limit)) ≡ read u next → (length s ≤ limit) × (at ≡ next)
+      go : (t : Bool) → leb (length s) limit ≡ t → cond t (read tt at) (refuse (refusal FileTooLong limit)) ≡ read u next → (length s ≤ limit) × (at ≡ next)
       go true l w = (leb-true (length s) limit l, cc)
       go false l w = impossible (cc)
 
@@ -93,11 +93,11 @@ module _ (s : List ℕ) where
       )
 
   -- The same, from the offset past it.
-  pub past_head : (ms : List ℕ) (limit : ℕ) {next : ℕ} → past_of (head ms limit s 0) ≡ Past next
+  pub past_head : (ms : List ℕ) (limit : ℕ) {next : ℕ} → past_of (head ms limit s 0) ≡ Ok next
       → (length s ≤ limit) × (head ms limit s 0 ≡ read tt (length ms + 2))
   past_head ms limit {next} e = go (head ms limit s 0) refl e
     where
-      go : (x : Parsed (Unit {0})) → head ms limit s 0 ≡ x → past_of x ≡ Past next → (length s ≤ limit) × (x ≡ read tt (length ms + 2))
+      go : (x : Parsed (Unit {0})) → head ms limit s 0 ≡ x → past_of x ≡ Ok next → (length s ≤ limit) × (x ≡ read tt (length ms + 2))
       go (read tt m) w f =
           let r = read_head ms limit w in
           let p : m ≡ length ms + 2 = omega (arith, r.1.past, length-append ms (get_or s (length ms) 0 ∷ 0 ∷ [])) in
@@ -108,7 +108,7 @@ module _ (s : List ℕ) where
   unfolding ended
   read_ended at {u} {next} e = go (ltb at (length s)) refl e
     where
-      go : (t : Bool) → ltb at (length s) ≡ t → cond t (refuse (refusal 4 at)) (read tt at) ≡ read u next → (length s ≤ at) × (next ≡ at)
+      go : (t : Bool) → ltb at (length s) ≡ t → cond t (refuse (refusal LeftOver at)) (read tt at) ≡ read u next → (length s ≤ at) × (next ≡ at)
       go true i w = impossible (cc)
       go false i w = (ltb-false at (length s) i, cc)
 

@@ -5,7 +5,6 @@ pub mod Fields
 pub mod Bytes
 pub mod SizeFirst
 -- Laws.
-pub mod ValueLaws
 pub mod ParserLaws
 pub mod VerdictLaws
 pub mod BytesAtLaws

@@ -1,14 +1,11 @@
 -- A reader of a part of a file: at an offset, what stands there and the offset past it, or a refusal.
-use Rattle.std.specs.Prelude.{ℕ, zero, suc, Bool, true, false, List, [], ◌∷◌, ◌++◌}
+use Rattle.std.specs.Prelude.{ℕ, zero, suc, Bool, true, false, List, [], ◌∷◌, ◌++◌, Err, Ok, Result}
 use Rattle.parsing.specs.declared.Refusal.{Refusal}
-use Rattle.parsing.specs.declared.Scan.{Scan}
-use Rattle.parsing.specs.declared.Scan.TheVariants.{Past, Stopped}
-use Rattle.parsing.specs.declared.Checked.{Checked}
-use Rattle.parsing.specs.declared.Checked.TheVariants.{Accepted, Refused}
+use Rattle.parsing.specs.declared.reason.Reason.{Reason}
 
--- A refusal is a number and a place.
-abbrev pub refusal : ℕ → ℕ → Refusal
-refusal number place = record { number = number; place = place }
+-- A refusal is a reason and a place.
+abbrev pub refusal : Reason → ℕ → Refusal
+refusal reason place = record { reason = reason; place = place }
 
 pub data Parsed (A : Type 0) : Type 0 where
   read : A → ℕ → Parsed A
@@ -45,25 +42,35 @@ joined bytes [] = []
 joined bytes (a ∷ more) = bytes a ++ joined bytes more
 
 -- The offset past a part, without what was read.
-abbrev pub past_of : {A : Type 0} → Parsed A → Scan
-past_of (read a next) = Past next
-past_of (refuse r) = Stopped r
+abbrev pub past_of : {A : Type 0} → Parsed A → Result ℕ Refusal
+past_of (read a next) = Ok next
+past_of (refuse r) = Err r
 
--- The answer of a check in document 01's numbers.
+-- What follows the offset past a part; a refusal stands.
+abbrev pub past_then : Result ℕ Refusal → (ℕ → Result ℕ Refusal) → Result ℕ Refusal
+past_then (Ok next) rest = rest next
+past_then (Err r) rest = Err r
+
+-- The offset past n parts, by the offset past the part at each offset.
+abbrev pub past_many : ℕ → (ℕ → Result ℕ Refusal) → ℕ → Result ℕ Refusal
+past_many zero past at = Ok at
+past_many (suc n) past at = past_then (past at) (past_many n past)
+
+-- The answer of a check.
 pub data Verdict : Type 0 where
   accepted : Verdict
-  refused : (number place : ℕ) → Verdict
+  refused : (reason : Reason) (place : ℕ) → Verdict
 
 -- The first of two answers that refuses.
 abbrev pub or_else : Verdict → Verdict → Verdict
 or_else accepted v = v
-or_else (refused n p) v = refused n p
+or_else (refused r p) v = refused r p
 
 -- A refusal, unless a test holds.
-abbrev pub refused_unless : Bool → ℕ → ℕ → Verdict
-refused_unless true number place = accepted
-refused_unless false number place = refused number place
+abbrev pub refused_unless : Bool → Reason → ℕ → Verdict
+refused_unless true reason place = accepted
+refused_unless false reason place = refused reason place
 
-abbrev pub verdict_of : Checked → Verdict
-verdict_of Accepted = accepted
-verdict_of (Refused r) = refused r.number r.place
+abbrev pub verdict_of : Result (Unit {0}) Refusal → Verdict
+verdict_of (Ok t) = accepted
+verdict_of (Err r) = refused r.reason r.place

@@ -1,14 +1,13 @@
 -- Laws of readers: parts one after the other, as offsets past them and as what was read.
-use Rattle.std.specs.Prelude.{ℕ, zero, suc, ◌+◌, ◌-◌, ◌≤◌, ◌<◌, ◌≡◌, Bool, List, [], ◌∷◌, ◌++◌, ltb, length, get_or}
+use Rattle.parsing.specs.declared.reason.Reason.TheVariants.{OutOfRange}
+use Rattle.std.specs.Prelude.{ℕ, zero, suc, ◌+◌, ◌-◌, ◌≤◌, ◌<◌, ◌≡◌, Bool, List, [], ◌∷◌, ◌++◌, ltb, length, get_or, Err, Ok, Result}
 use Rattle.std.proofs.Math.Path.{refl}
 use Rattle.std.proofs.Common.{sym, ap, ◌∙◌, append_assoc, arith}
 use Rattle.std.proofs.Math.Bool.{true, false, cond}
 use borrow.Author.Tests.{ltb-true, leb-true, le-leb, lt-ltb, le-ltb}
 use Rattle.std.proofs.Math.Dec.{leb}
 use Rattle.parsing.specs.declared.Refusal.{Refusal}
-use Rattle.parsing.specs.declared.Scan.TheVariants.{Past, Stopped}
-use Rattle.parsing.specs.declared.Count.TheVariants.{Is, Outside}
-use Rattle.parsing.specs.Parser.{refusal, Parsed, read, refuse, Parser, and_then, many, joined, past_of}
+use Rattle.parsing.specs.Parser.{refusal, Parsed, read, refuse, Parser, and_then, many, joined, past_of, past_then, past_many}
 use Rattle.parsing.specs.Fields.{cut, byte, IsVersion, is_version, count, counted}
 
 -- Two constructors that are told equal: `impossible (cc)`.
@@ -20,17 +19,17 @@ pub record Read {A : Type 0} (x : Parsed A) (next : ℕ) : Type 0 where
   pub what : A
   pub is : x ≡ read what next
 
-pub past_read : {A : Type 0} (x : Parsed A) {next : ℕ} → past_of x ≡ Past next → Read x next
+pub past_read : {A : Type 0} (x : Parsed A) {next : ℕ} → past_of x ≡ Ok next → Read x next
 past_read (read a n) e = record { what = a; is = ap (read a) (cc) }
 past_read (refuse r) e = impossible (cc)
 
-pub past_refuse : {A : Type 0} (x : Parsed A) {r : Refusal} → past_of x ≡ Stopped r → x ≡ refuse r
+pub past_refuse : {A : Type 0} (x : Parsed A) {r : Refusal} → past_of x ≡ Err r → x ≡ refuse r
 past_refuse (read a n) e = impossible (cc)
 past_refuse (refuse r) e = ap refuse (cc)
 
 -- A part and what follows it.
 module _ {A B : Type 0} (x : Parsed A) (k : A → ℕ → Parsed B) where
-  pub stop : {r : Refusal} → past_of x ≡ Stopped r → and_then x k ≡ refuse r
+  pub stop : {r : Refusal} → past_of x ≡ Err r → and_then x k ≡ refuse r
   stop e = rw (past_refuse x e)
 
 -- What follows was read, so the part was.
@@ -43,20 +42,6 @@ pub record Sequence {A B : Type 0} (x : Parsed A) (k : A → ℕ → Parsed B) (
 pub sequence : {A B : Type 0} (x : Parsed A) (k : A → ℕ → Parsed B) {b : B} {next : ℕ} → and_then x k ≡ read b next → Sequence x k b next
 sequence (read a m) k e = record { first = a; middle = m; reads = refl; follows = e }
 sequence (refuse r) k e = impossible (cc)
-
--- One of several parts, and the others.
-module _ {A : Type 0} (p : Parser A) (s : List ℕ) (n at : ℕ) where
-  pub many_next : {next : ℕ} → past_of (p s at) ≡ Past next → past_of (many (suc n) p s at) ≡ past_of (many n p s next)
-  many_next {next} e =
-      let r = past_read (p s at) e in
-      ap (λ x. past_of (and_then x (λ a m. and_then (many n p s m) (λ as' m'. read (a ∷ as') m')))) r.is ∙ go r.what (many n p s next)
-    where
-      go : (a : A) (y : Parsed (List A)) → past_of (and_then y (λ as' m. read (a ∷ as') m)) ≡ past_of y
-      go b (read a m) = refl
-      go b (refuse r) = refl
-
-  pub many_stop : {r : Refusal} → past_of (p s at) ≡ Stopped r → past_of (many (suc n) p s at) ≡ Stopped r
-  many_stop e = ap past_of (stop (p s at) (λ a m. and_then (many n p s m) (λ as' m'. read (a ∷ as') m')) e)
 
 -- Several parts that were read.
 pub data ReadMany {A : Type 0} (p : Parser A) (s : List ℕ) : ℕ → List A → ℕ → Type 0 where
@@ -128,44 +113,60 @@ module _ (low high : ℕ) (s : List ℕ) (at : ℕ) where
   pub read_count : {n next : ℕ} → count low high s at ≡ read n next → ReadCount n next
   unfolding count
   read_count {n} {next} e =
-      let h = sequence (byte s at) (λ k m. cond (leb low k) (cond (leb k high) (read k m) (refuse (refusal 5 at))) (refuse (refusal 5 at))) e in
+      let h = sequence (byte s at) (λ k m. cond (leb low k) (cond (leb k high) (read k m) (refuse (refusal OutOfRange at))) (refuse (refusal OutOfRange at))) e in
       go h.first h.middle (read_byte s at h.reads) (leb low h.first) (leb h.first high) refl refl h.follows
     where
-      go : (k m : ℕ) → ReadByte s at k m → (t u : Bool) → leb low k ≡ t → leb k high ≡ u → cond t (cond u (read k m) (refuse (refusal 5 at))) (refuse (refusal 5 at)) ≡ read n next → ReadCount n next
+      go : (k m : ℕ) → ReadByte s at k m → (t u : Bool) → leb low k ≡ t → leb k high ≡ u → cond t (cond u (read k m) (refuse (refusal OutOfRange at))) (refuse (refusal OutOfRange at)) ≡ read n next → ReadCount n next
       go k m b true true l h w =
           let x : k ≡ n = cc in let y : m ≡ next = cc in rw (← x, ← y) (record { byte = b; least = leb-true low k l; most = leb-true k high h })
       go k m b true false l h w = impossible (cc)
       go k m b false u l h w = impossible (cc)
 
   -- What the function that reads a count answered.
-  pub count_is_lem : {n : ℕ} → counted (count low high s at) ≡ Is n → count low high s at ≡ read n (at + 1)
+  pub count_is_lem : {n : ℕ} → counted (count low high s at) ≡ Ok n → count low high s at ≡ read n (at + 1)
   count_is_lem {n} e = go (count low high s at) refl e
     where
-      go : (x : Parsed ℕ) → count low high s at ≡ x → counted x ≡ Is n → x ≡ read n (at + 1)
+      go : (x : Parsed ℕ) → count low high s at ≡ x → counted x ≡ Ok n → x ≡ read n (at + 1)
       go (read k m) w f = let p = (read_count w).byte.past in let q : k ≡ n = cc in rw (p, q)
       go (refuse r) w f = impossible (cc)
 
-  pub count_outside : {r : Refusal} → counted (count low high s at) ≡ Outside r → count low high s at ≡ refuse r
+  pub count_outside : {r : Refusal} → counted (count low high s at) ≡ Err r → count low high s at ≡ refuse r
   count_outside {r} e = go (count low high s at) e
     where
-      go : (x : Parsed ℕ) → counted x ≡ Outside r → x ≡ refuse r
+      go : (x : Parsed ℕ) → counted x ≡ Err r → x ≡ refuse r
       go (read k m) f = impossible (cc)
       go (refuse q) f = ap refuse (cc)
 
--- A loop over n parts, as its turns meet it.
-module _ {A : Type 0} (p : Parser A) (s : List ℕ) where
-  pub many_turn : (n at next : ℕ) → 0 < n → past_of (p s at) ≡ Past next → past_of (many (n - 1) p s next) ≡ past_of (many n p s at)
-  many_turn zero at next h e = absurd (omega arith)
-  many_turn (suc n) at next h e =
-      let q : suc n - 1 ≡ n = omega arith in rw q (sym (many_next p s n at e))
+-- The offset past n parts, as the turns of a loop over them meet it: i of them are read.
+module _ (past : ℕ → Result ℕ Refusal) (n i at : ℕ) where
+  pub past_turn : {next : ℕ} → i < n → past at ≡ Ok next → past_many (n - (i + 1)) past next ≡ past_many (n - i) past at
+  past_turn {next} h e =
+      let m : n - i ≡ suc (n - (i + 1)) = omega arith in
+      rw (m, e)
 
-  pub many_halt : (n at : ℕ) (r : Refusal) → 0 < n → past_of (p s at) ≡ Stopped r → Stopped r ≡ past_of (many n p s at)
-  many_halt zero at r h e = absurd (omega arith)
-  many_halt (suc n) at r h e = sym (many_stop p s n at e)
+  pub past_halt : {r : Refusal} → i < n → past at ≡ Err r → Err r ≡ past_many (n - i) past at
+  past_halt h e =
+      let m : n - i ≡ suc (n - (i + 1)) = omega arith in
+      rw (m, e)
 
-  pub many_last : (n at : ℕ) → n ≤ 0 → Past at ≡ past_of (many n p s at)
-  many_last zero at h = refl
-  many_last (suc n) at h = absurd (omega arith)
+  pub past_last : n ≤ i → Ok at ≡ past_many (n - i) past at
+  past_last h =
+      let m : n - i ≡ 0 = omega arith in
+      rw m
+
+-- It is that past what a reader of n parts reads.
+pub past_parts : {A : Type 0} (p : Parser A) (s : List ℕ) (n at : ℕ) → past_many n (λ (k : ℕ). past_of (p s k)) at ≡ past_of (many n p s at)
+past_parts p s zero at = refl
+past_parts {A} p s (suc n) at = go (p s at) (λ m. past_parts p s n m)
+  where
+    last : (a : A) (y : Parsed (List A)) → past_of y ≡ past_of (and_then y (λ more m. read (a ∷ more) m))
+    last a (read more m) = refl
+    last a (refuse r) = refl
+
+    go : (x : Parsed A) → ((m : ℕ) → past_many n (λ (k : ℕ). past_of (p s k)) m ≡ past_of (many n p s m))
+        → past_then (past_of x) (past_many n (λ (k : ℕ). past_of (p s k))) ≡ past_of (and_then x (λ a m. and_then (many n p s m) (λ more m'. read (a ∷ more) m')))
+    go (read a m) others = others m ∙ last a (many n p s m)
+    go (refuse r) others = refl
 
 -- Writings one after the other.
 pub joined_append : {A : Type 0} (bytes : A → List ℕ) (xs ys : List A) → joined bytes (xs ++ ys) ≡ joined bytes xs ++ joined bytes ys

@@ -2,15 +2,8 @@
 
 #![tactic(auto)]
 
-ghost use Rattle.std.specs.Prelude.{min, ◌≡◌};
+ghost use Rattle.std.specs.Prelude.{◌≡◌};
 ghost use Rattle.prices.specs.Cents.{started_above, cents};
-
-// The less of two numbers.
-fn least(a: u64, b: u64) -> u64
-    ensures { result ≡ min a b }
-{
-    if a < b { a } else { b }
-}
 
 // The thousands that so many steps have started above a border.
 fn started_above(border: u64, steps: u64) -> u64
@@ -28,7 +21,7 @@ fn started_above(border: u64, steps: u64) -> u64
 pub fn cents_of(steps: u64) -> u64
     ensures { result ≡ cents steps }
 {
-    let near = started_above(5000, least(steps, 100000));
+    let near = started_above(5000, steps.min(100000));
     let far = started_above(100000, steps);
     250 + 3 * near + 2 * far
 }

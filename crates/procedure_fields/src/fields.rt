@@ -145,7 +145,7 @@ pub fn call_fields(file: &[u8], at: usize) -> CallFields
     let c = at + 3;
     let arguments = at + 4;
     let count = file[c];
-    let next = arguments + (count as usize);
+    let next = arguments + usize::from(count);
     let target = checked_variable(file[x]);
     let function = checked_function(file[g]);
     CallFields {

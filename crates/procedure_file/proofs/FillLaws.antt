@@ -106,13 +106,14 @@ module _ (s : List ℕ) (f at : ℕ) (starts : List ℕ) (w : Filled s f at star
 
 module _ (s : List ℕ) (f labels : ℕ) (starts : List ℕ) (l place : ℕ) (w : Row s f labels starts l place) where
   pub row_more : (before : ℕ) → before ≡ bytes_before (version_of s) → l < labels
-      → (starts' : List ℕ) (next : ℕ) → starts' ≡ set starts (64 * f + (l + 1)) (place + before) → next ≡ end_of (block s (place + before)) → Row s f labels starts' (l + 1) next
+      → (starts' : List ℕ) (next : ℕ) → starts' ≡ set starts (64 * f + l + 1) (place + before) → next ≡ end_of (block s (place + before)) → Row s f labels starts' (l + 1) next
   row_more before eb less starts' next es en =
       let P = program_of s in
       let known : l + 1 ≤ length (function_of P f).blocks = omega (arith, w.labels_are) in
       let m : l + 1 ≡ suc l = omega arith in
       let b : place + before ≡ start_of P f (suc l) = omega (arith, w.place_is, start_behind s w.laid f w.there l) in
       let x : place + before ≡ start_of P f (l + 1) = rw m b in
+      let j : 64 * f + l + 1 ≡ 64 * f + (l + 1) = omega arith in
       let i : suc (64 * f + (l + 1)) ≡ 64 * f + (l + 1 + 1) = omega arith in
       record {
         laid = w.laid;
@@ -120,7 +121,7 @@ module _ (s : List ℕ) (f labels : ℕ) (starts : List ℕ) (l place : ℕ) (w 
         labels_are = w.labels_are;
         counter_bound = omega arith;
         place_is = en ∙ ap (λ (k : ℕ). end_of (block s k)) x ∙ end_is s w.laid f w.there (l + 1) known;
-        entries = rw (es, ← i)
+        entries = rw (es, j, ← i)
             (entry_filled P (64 * f + (l + 1)) starts w.entries f (l + 1) (place + before) refl (functions_bound s w.laid f w.there)
             (omega (arith, blocks_bound_lem s w.laid f w.there)) (x ∙ sym (entry_there P f (l + 1) w.there known)));
       }

@@ -1,6 +1,6 @@
 -- Laws of reading a file by its table, as the functions that read it meet them.
 use Rattle.std.specs.Prelude.{ℕ, zero, suc, ◌+◌, ◌-◌, ◌*◌, ◌≤◌, ◌<◌, ◌≡◌, ◌≢◌, List, [], ◌∷◌, length, get_or, drop}
-use Rattle.std.proofs.Common.{sym, ap, ◌∙◌, arith, length-append}
+use Rattle.std.proofs.Common.{sym, ap, ◌∙◌, subst, arith, length-append}
 use Rattle.std.proofs.Math.Decide.{ℕ_discrete}
 use borrow.Author.Tests.{le-leb, lt-leb, lt-ltb, le-ltb}
 use Rattle.std.proofs.Math.ListN.{get_or-eq_default}
@@ -166,6 +166,16 @@ module _ (s : List ℕ) (L : Laid s) (f : ℕ) (there : f < length (program_of s
         by : (k : ℕ) → 1 ≤ k → k ≤ length F.blocks → as_receiver (receiver_byte (receiver_of F k)) ≡ receiver_of F k
         by zero i h = absurd (omega arith)
         by (suc k) i h = receiver_known s L.bytes P (laid_reads L) f there k (omega arith)
+
+-- The fields of a file with its table, by its bytes.
+pub tabled_as : {file s starts : List ℕ} → file ≡ s → Tabled file starts → Tabled s starts
+tabled_as {starts} e T = subst (λ (b : List ℕ). Tabled b starts) e T
+
+pub laid_as : {file s starts : List ℕ} → file ≡ s → Tabled file starts → Laid s
+laid_as e T = (tabled_as e T).laid
+
+pub long_as : {file s : List ℕ} {n : ℕ} → file ≡ s → n < length s → n < length file
+long_as {n} e h = subst (λ (b : List ℕ). n < length b) (sym e) h
 
 module _ (s starts : List ℕ) (T : Tabled s starts) (f : ℕ) (there : f < length (program_of s)) (l : ℕ)
     (known : l ≤ length (function_of (program_of s) f).blocks) where

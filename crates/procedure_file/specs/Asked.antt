@@ -10,7 +10,7 @@ use Rattle.procedure_names.specs.Names.{handler, receiver, block_names, function
 use Rattle.procedure_file.specs.Check.{program_of}
 use Rattle.procedure_file.specs.Places.{function_place}
 use Rattle.procedure_file.specs.Table.{index, entry_of, Table}
-use Rattle.procedure_file.specs.Loaded.{Laid, Tabled}
+use Rattle.procedure_file.specs.Loaded.{Laid}
 
 -- The entries before i are those of the table, the others 0.
 pub record FilledTo (P : Program) (i : ℕ) (starts : List ℕ) : Type 0 where
@@ -37,8 +37,7 @@ labelled_verdict ps s v n h r start =
     first_wrong (handler n place h ∷ receiver v (place + 1) r ∷ block_names ps v n start (rest_at s start))
 
 -- What judging the blocks of function f asks: its numbers of variables and of labels.
-pub record Naming (s starts : List ℕ) (f v labels : ℕ) : Type 0 where
-  pub tabled : Tabled s starts
+pub record Naming (s : List ℕ) (f v labels : ℕ) : Type 0 where
   pub there : f < length (program_of s)
   pub variables_are : v ≡ variables (function_of (program_of s) f)
   pub labels_are : labels ≡ length (function_of (program_of s) f).blocks

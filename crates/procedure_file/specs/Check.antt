@@ -8,7 +8,7 @@ use Rattle.procedure_names.specs.Names.{names_of, first_wrong}
 
 -- Names are judged once the layout is whole.
 abbrev pub named : Parsed Program → Verdict
-named (refuse r) = refused r.number r.place
+named (refuse r) = refused r.reason r.place
 named (read P next) = first_wrong (names_of P)
 
 -- The layout of the whole file, its head first, and then its names.

@@ -6,7 +6,6 @@ ghost use Rattle.procedure_file.specs.Loaded.{Laid};
 ghost use Rattle.procedure_file.specs.Asked.{Filled, Given};
 
 use crate::table::{block_past, functions_of};
-use casts::byte_number;
 use procedure_layout::layout;
 
 // The row of function f, which stands at `at`; gives the offset past the function.
@@ -16,17 +15,13 @@ fn fill_row(file: &[u8], f: usize, at: usize, starts: &mut [u16]) -> usize
 {
     let row = 64 * f;
     let entry = at + 3;
-    let count = at + 2;
-    let labels = byte_number(file[count]);
+    let labels = usize::from(file[at + 2]);
     let before = layout::bytes_before(file);
     starts[row] = entry as u16;
     let mut place = block_past(file, entry);
-    let mut l = 0;
-    while l < labels {
-        l += 1;
-        let index = row + l;
+    for l in 0..labels {
         let start = place + before;
-        starts[index] = start as u16;
+        starts[row + l + 1] = start as u16;
         place = block_past(file, start);
     }
     place
@@ -39,11 +34,9 @@ pub fn fill(file: &[u8], starts: &mut [u16], params: &mut [u8]) -> usize
 {
     let count = functions_of(file);
     let mut at = 6;
-    let mut f = 0;
-    while f < count {
+    for f in 0..count {
         params[f] = file[at];
         at = fill_row(file, f, at, starts);
-        f += 1;
     }
     count
 }

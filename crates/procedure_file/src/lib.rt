@@ -4,4 +4,5 @@
 
 pub mod check;
 mod fill;
+pub mod loaded;
 pub mod table;

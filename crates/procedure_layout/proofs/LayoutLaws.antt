@@ -1,13 +1,11 @@
 -- Laws of the layout, as the functions that walk a file meet them.
-use Rattle.std.specs.Prelude.{ℕ, ◌+◌, ◌≤◌, ◌<◌, ◌≡◌, Bool, true, false, cond, ◌≢◌, ltb, eqb, length}
+use Rattle.std.specs.Prelude.{ℕ, ◌+◌, ◌≤◌, ◌<◌, ◌≡◌, Bool, true, false, cond, ◌≢◌, ltb, eqb, length, Err, Ok}
 use Rattle.std.proofs.Math.Path.{refl, ap}
 use Rattle.std.proofs.Common.{sym, ◌∙◌, arith, eq-eqb, ne_eqb, ltb-false}
 use mathlib.Core.List.{List}
 use Rattle.std.proofs.Math.Option.{Option, none}
 use Rattle.std.proofs.Math.ListN.{get_or}
 use Rattle.parsing.specs.declared.Refusal.{Refusal}
-use Rattle.parsing.specs.declared.Scan.TheVariants.{Past, Stopped}
-use Rattle.parsing.specs.declared.Count.TheVariants.{Is, Outside}
 use Rattle.parsing.specs.Parser.{Parsed, read, refuse, and_then, many, past_of}
 use Rattle.parsing.specs.Fields.{cut, byte, version_of, head, count, counted, ended}
 use Rattle.parsing.specs.ParserLaws.{impossible, past_read, past_refuse, byte_in, byte_cut, read_count, count_is_lem, count_outside, sequence}
@@ -46,10 +44,10 @@ module _ (s : List ℕ) (at next : ℕ) where
       go (is_raise_value e h v) w = impossible (cc)
       go (is_refused r) w = impossible (cc)
 
-  pub block_ended : after_of (operation_at s at) ≡ Ended next → past_of (block s at) ≡ Past next
+  pub block_ended : after_of (operation_at s at) ≡ Ended next → past_of (block s at) ≡ Ok next
   block_ended e = ap past_of (block_law s at) ∙ go (view s at) e
     where
-      go : {o : Operation} → View s at o → after_of o ≡ Ended next → past_of (block_from s at o (block s)) ≡ Past next
+      go : {o : Operation} → View s at o → after_of o ≡ Ended next → past_of (block_from s at o (block s)) ≡ Ok next
       go (is_constant e h) w = impossible (cc)
       go (is_copy e h) w = impossible (cc)
       go (is_difference e h) w = impossible (cc)
@@ -80,10 +78,10 @@ module _ (s : List ℕ) (at next : ℕ) where
       go (is_raise_value e h v) w = impossible (cc)
       go (is_refused r) w = impossible (cc)
 
-pub block_halted : (s : List ℕ) (at : ℕ) (r : Refusal) → after_of (operation_at s at) ≡ Halted r → past_of (block s at) ≡ Stopped r
+pub block_halted : (s : List ℕ) (at : ℕ) (r : Refusal) → after_of (operation_at s at) ≡ Halted r → past_of (block s at) ≡ Err r
 block_halted s at r e = ap past_of (block_law s at) ∙ go (view s at) e
   where
-    go : {o : Operation} → View s at o → after_of o ≡ Halted r → past_of (block_from s at o (block s)) ≡ Stopped r
+    go : {o : Operation} → View s at o → after_of o ≡ Halted r → past_of (block_from s at o (block s)) ≡ Err r
     go (is_constant e h) w = impossible (cc)
     go (is_copy e h) w = impossible (cc)
     go (is_difference e h) w = impossible (cc)
@@ -97,7 +95,7 @@ block_halted s at r e = ap past_of (block_law s at) ∙ go (view s at) e
 
 -- A labelled block.
 module _ (s : List ℕ) (at : ℕ) where
-  pub labelled_cut : length s ≤ at → past_of (labelled s at) ≡ Stopped (cut s)
+  pub labelled_cut : length s ≤ at → past_of (labelled s at) ≡ Err (cut s)
   unfolding labelled
   labelled_cut h = rw (byte_cut s at h)
 
@@ -143,15 +141,15 @@ before_bounds version = by (eqb version 2)
 
 -- A heading.
 module _ (s : List ℕ) (at : ℕ) where
-  pub heading_1 : (r : Refusal) → counted (count 0 8 s at) ≡ Outside r → blocks_of (heading s at) ≡ Outside r
+  pub heading_1 : (r : Refusal) → counted (count 0 8 s at) ≡ Err r → blocks_of (heading s at) ≡ Err r
   unfolding heading
   heading_1 r e = rw (count_outside 0 8 s at e)
 
-  pub heading_2 : (p : ℕ) (r : Refusal) → counted (count 0 8 s at) ≡ Is p → counted (count 0 24 s (at + 1)) ≡ Outside r → blocks_of (heading s at) ≡ Outside r
+  pub heading_2 : (p : ℕ) (r : Refusal) → counted (count 0 8 s at) ≡ Ok p → counted (count 0 24 s (at + 1)) ≡ Err r → blocks_of (heading s at) ≡ Err r
   unfolding heading
   heading_2 p r e f = rw (count_is_lem 0 8 s at e, count_outside 0 24 s (at + 1) f)
 
-  pub heading_3 : (p l : ℕ) → counted (count 0 8 s at) ≡ Is p → counted (count 0 24 s (at + 1)) ≡ Is l
+  pub heading_3 : (p l : ℕ) → counted (count 0 8 s at) ≡ Ok p → counted (count 0 24 s (at + 1)) ≡ Ok l
       → blocks_of (heading s at) ≡ counted (count 0 63 s (at + 1 + 1))
   unfolding heading
   heading_3 p l e f = rw (count_is_lem 0 8 s at e, count_is_lem 0 24 s (at + 1) f) (go (count 0 63 s (at + 1 + 1)))
@@ -170,7 +168,7 @@ pub record HeadingAt (s : List ℕ) (at : ℕ) (h : Heading) : Type 0 where
   pub locals_bound : h.locals ≤ 24
   pub blocks_bound : h.blocks ≤ 63
 
-pub count_inside : (low high : ℕ) (s : List ℕ) (at n : ℕ) → counted (count low high s at) ≡ Is n → at < length s
+pub count_inside : (low high : ℕ) (s : List ℕ) (at n : ℕ) → counted (count low high s at) ≡ Ok n → at < length s
 count_inside low high s at n e = (read_count low high s at (count_is_lem low high s at e)).byte.inside
 
 pub read_heading : (s : List ℕ) (at : ℕ) (h : Heading) (next : ℕ) → heading s at ≡ read h next → HeadingAt s at h × (next ≡ at + 3)
@@ -202,33 +200,33 @@ pub record HeadingIs (s : List ℕ) (at n : ℕ) : Type 0 where
   pub here : HeadingAt s at heading
   pub blocks : heading.blocks ≡ n
 
-pub heading_is : (s : List ℕ) (at n : ℕ) → blocks_of (heading s at) ≡ Is n → HeadingIs s at n
+pub heading_is : (s : List ℕ) (at n : ℕ) → blocks_of (heading s at) ≡ Ok n → HeadingIs s at n
 heading_is s at n e = go (heading s at) refl e
   where
-    go : (x : Parsed Heading) → heading s at ≡ x → blocks_of x ≡ Is n → HeadingIs s at n
+    go : (x : Parsed Heading) → heading s at ≡ x → blocks_of x ≡ Ok n → HeadingIs s at n
     go (read h next) w f =
         let r = read_heading s at h next w in
         record { heading = h; reads = w ∙ ap (read h) r.1; here = r.0; blocks = cc }
     go (refuse r) w f = impossible (cc)
 
-pub heading_outside : (s : List ℕ) (at : ℕ) (r : Refusal) → blocks_of (heading s at) ≡ Outside r → heading s at ≡ refuse r
+pub heading_outside : (s : List ℕ) (at : ℕ) (r : Refusal) → blocks_of (heading s at) ≡ Err r → heading s at ≡ refuse r
 heading_outside s at r e = go (heading s at) e
   where
-    go : (x : Parsed Heading) → blocks_of x ≡ Outside r → x ≡ refuse r
+    go : (x : Parsed Heading) → blocks_of x ≡ Err r → x ≡ refuse r
     go (read h next) f = impossible (cc)
     go (refuse q) f = ap refuse (cc)
 
 -- A function.
 module _ (s : List ℕ) (at : ℕ) where
-  pub function_1 : (r : Refusal) → blocks_of (heading s at) ≡ Outside r → past_of (function s at) ≡ Stopped r
+  pub function_1 : (r : Refusal) → blocks_of (heading s at) ≡ Err r → past_of (function s at) ≡ Err r
   unfolding function
   function_1 r e = rw (heading_outside s at r e)
 
-  pub function_2 : (n : ℕ) (r : Refusal) → blocks_of (heading s at) ≡ Is n → past_of (block s (at + 3)) ≡ Stopped r → past_of (function s at) ≡ Stopped r
+  pub function_2 : (n : ℕ) (r : Refusal) → blocks_of (heading s at) ≡ Ok n → past_of (block s (at + 3)) ≡ Err r → past_of (function s at) ≡ Err r
   unfolding function
   function_2 n r e f = rw ((heading_is s at n e).reads, past_refuse (block s (at + 3)) f)
 
-  pub function_3 : (n next : ℕ) → blocks_of (heading s at) ≡ Is n → past_of (block s (at + 3)) ≡ Past next
+  pub function_3 : (n next : ℕ) → blocks_of (heading s at) ≡ Ok n → past_of (block s (at + 3)) ≡ Ok next
       → past_of (function s at) ≡ past_of (many n labelled s next)
   unfolding function
   function_3 n next e f =
@@ -242,29 +240,29 @@ module _ (s : List ℕ) (at : ℕ) where
       go h b (read bs m) = refl
       go h b (refuse r) = refl
 
-  pub function_inside : (n : ℕ) → blocks_of (heading s at) ≡ Is n → at + 3 ≤ length s
+  pub function_inside : (n : ℕ) → blocks_of (heading s at) ≡ Ok n → at + 3 ≤ length s
   function_inside n e = (heading_is s at n e).here.inside
 
 -- The whole file.
 module _ (s : List ℕ) where
-  pub program_1 : (r : Refusal) → past_of (head spf file_limit s 0) ≡ Stopped r → past_of (program s 0) ≡ Stopped r
+  pub program_1 : (r : Refusal) → past_of (head spf file_limit s 0) ≡ Err r → past_of (program s 0) ≡ Err r
   unfolding program
   program_1 r e = rw (past_refuse (head spf file_limit s 0) e)
 
-  module _ (a : ℕ) (whole : past_of (head spf file_limit s 0) ≡ Past a) where
+  module _ (a : ℕ) (whole : past_of (head spf file_limit s 0) ≡ Ok a) where
     after_head : head spf file_limit s 0 ≡ read tt 5
     after_head = (past_head s spf file_limit whole).1
 
-    pub program_2 : (r : Refusal) → counted (count 1 32 s 5) ≡ Outside r → past_of (program s 0) ≡ Stopped r
+    pub program_2 : (r : Refusal) → counted (count 1 32 s 5) ≡ Err r → past_of (program s 0) ≡ Err r
     unfolding program functions
     program_2 r e = rw (after_head, count_outside 1 32 s 5 e)
 
-    module _ (n : ℕ) (some : counted (count 1 32 s 5) ≡ Is n) where
-      pub program_3 : (r : Refusal) → past_of (many n function s 6) ≡ Stopped r → past_of (program s 0) ≡ Stopped r
+    module _ (n : ℕ) (some : counted (count 1 32 s 5) ≡ Ok n) where
+      pub program_3 : (r : Refusal) → past_of (many n function s 6) ≡ Err r → past_of (program s 0) ≡ Err r
       unfolding program functions
       program_3 r e = rw (after_head, count_is_lem 1 32 s 5 some, past_refuse (many n function s 6) e)
 
-      pub program_4 : (m : ℕ) → past_of (many n function s 6) ≡ Past m → past_of (program s 0) ≡ past_of (ended s m)
+      pub program_4 : (m : ℕ) → past_of (many n function s 6) ≡ Ok m → past_of (program s 0) ≡ past_of (ended s m)
       unfolding program functions
       program_4 m e =
           let f = past_read (many n function s 6) e in
@@ -282,10 +280,10 @@ module _ (s : List ℕ) where
       (read_head s spf file_limit h.reads).0
 
 -- The offset past a block, from its end.
-pub end_past : (x : Parsed Block) (next : ℕ) → past_of x ≡ Past next → next ≡ end_of x
+pub end_past : (x : Parsed Block) (next : ℕ) → past_of x ≡ Ok next → next ≡ end_of x
 end_past (read b m) next e = cc
 end_past (refuse r) next e = impossible (cc)
 
-pub end_stopped : (x : Parsed Block) (r : Refusal) → past_of x ≡ Stopped r → 0 ≡ end_of x
+pub end_stopped : (x : Parsed Block) (r : Refusal) → past_of x ≡ Err r → 0 ≡ end_of x
 end_stopped (read b m) r e = impossible (cc)
 end_stopped (refuse q) r e = refl

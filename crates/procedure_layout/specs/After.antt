@@ -1,7 +1,6 @@
 -- What the functions that walk a file answer.
-use Rattle.std.specs.Prelude.{ℕ}
-use Rattle.parsing.specs.declared.Count.{Count}
-use Rattle.parsing.specs.declared.Count.TheVariants.{Is, Outside}
+use Rattle.parsing.specs.declared.Refusal.{Refusal}
+use Rattle.std.specs.Prelude.{ℕ, Err, Ok, Result}
 use Rattle.parsing.specs.Parser.{Parsed, read, refuse}
 use Rattle.procedure_operations.specs.declared.operation.Operation.{Operation}
 use Rattle.procedure_operations.specs.declared.operation.Operation.TheVariants.{Constant, Copy, Difference, Call, Goto, Return, Branch, Raise, RaiseValue, Refused}
@@ -24,9 +23,9 @@ after_of (RaiseValue x next) = Ended next
 after_of (Refused r) = Halted r
 
 -- The labelled block count of a heading.
-abbrev pub blocks_of : Parsed Heading → Count
-blocks_of (read h next) = Is h.blocks
-blocks_of (refuse r) = Outside r
+abbrev pub blocks_of : Parsed Heading → Result ℕ Refusal
+blocks_of (read h next) = Ok h.blocks
+blocks_of (refuse r) = Err r
 
 -- The offset past a block.
 abbrev pub end_of : Parsed Block → ℕ

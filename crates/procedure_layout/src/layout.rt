@@ -1,11 +1,11 @@
 // The layout of a file: the refusals 1 to 6 and 15.
 ghost use Rattle.std.specs.Prelude.{◌≡◌};
-ghost use Rattle.parsing.specs.Parser.{past_of, many};
+ghost use Rattle.parsing.specs.Parser.{past_of};
 ghost use Rattle.parsing.specs.Fields.{version_of};
 ghost use Rattle.procedure_layout.specs.Layout.{block, bytes_before, labelled, heading, function, program};
 ghost use Rattle.procedure_layout.specs.After.{after_of, blocks_of};
 
-use parsing::{Count, Refusal, Scan, refusals};
+use parsing::{Reason, Refusal};
 use procedure_operations::operation;
 use procedure_operations::operation::Operation;
 
@@ -44,7 +44,7 @@ pub fn after_of(o: Operation) -> After
 }
 
 // The end of the block whose first operation stands at `start`.
-pub fn block_end(file: &[u8], start: usize) -> Scan
+pub fn block_end(file: &[u8], start: usize) -> Result<usize, Refusal>
     ensures { result ≡ past_of (block file.now start) }
 {
     let mut at = start;
@@ -54,10 +54,10 @@ pub fn block_end(file: &[u8], start: usize) -> Scan
                 at = next;
             }
             After::Ended(next) => {
-                return Scan::Past(next);
+                return Ok(next);
             }
             After::Halted(r) => {
-                return Scan::Stopped(r);
+                return Err(r);
             }
         }
     }
@@ -71,96 +71,42 @@ pub fn bytes_before(file: &[u8]) -> usize
 }
 
 // The end of a labelled block: its handler byte, its receiver, then its operations.
-fn labelled_end(file: &[u8], at: usize) -> Scan
+fn labelled_end(file: &[u8], at: usize) -> Result<usize, Refusal>
     ensures { result ≡ past_of (labelled file.now at) }
 {
     if file.len() <= at {
-        return Scan::Stopped(Refusal {
-            number: refusals::ENDS_EARLY,
+        return Err(Refusal {
+            reason: Reason::EndsEarly,
             place: file.len(),
         });
     }
     block_end(file, at + bytes_before(file))
 }
 
-// The end of n labelled blocks.
-fn labels_end(file: &[u8], start: usize, n: usize) -> Scan
-    ensures { result ≡ past_of (many n labelled file.now start) }
-{
-    let mut at = start;
-    let mut left = n;
-    while 0 < left {
-        left -= 1;
-        match labelled_end(file, at) {
-            Scan::Past(next) => {
-                at = next;
-            }
-            Scan::Stopped(r) => {
-                return Scan::Stopped(r);
-            }
-        }
-    }
-    Scan::Past(at)
-}
-
 // The labelled block count of the function at an offset, once its counts are in range.
-fn heading_at(file: &[u8], at: usize) -> Count
+fn heading_at(file: &[u8], at: usize) -> Result<usize, Refusal>
     ensures { result ≡ blocks_of (heading file.now at) }
 {
-    match parsing::count_at(file, at, 0, 8) {
-        Count::Outside(r) => Count::Outside(r),
-        Count::Is(_) => match parsing::count_at(file, at + 1, 0, 24) {
-            Count::Outside(r) => Count::Outside(r),
-            Count::Is(_) => parsing::count_at(file, at + 1 + 1, 0, 63),
-        },
-    }
+    parsing::count_at(file, at, 0, 8)?;
+    parsing::count_at(file, at + 1, 0, 24)?;
+    parsing::count_at(file, at + 1 + 1, 0, 63)
 }
 
 // The end of a function.
-fn function_end(file: &[u8], at: usize) -> Scan
+fn function_end(file: &[u8], at: usize) -> Result<usize, Refusal>
     ensures { result ≡ past_of (function file.now at) }
 {
-    match heading_at(file, at) {
-        Count::Outside(r) => Scan::Stopped(r),
-        Count::Is(n) => match block_end(file, at + 3) {
-            Scan::Stopped(r) => Scan::Stopped(r),
-            Scan::Past(next) => labels_end(file, next, n),
-        },
-    }
-}
-
-// The end of n functions.
-fn functions_end(file: &[u8], start: usize, n: usize) -> Scan
-    ensures { result ≡ past_of (many n function file.now start) }
-{
-    let mut at = start;
-    let mut left = n;
-    while 0 < left {
-        left -= 1;
-        match function_end(file, at) {
-            Scan::Past(next) => {
-                at = next;
-            }
-            Scan::Stopped(r) => {
-                return Scan::Stopped(r);
-            }
-        }
-    }
-    Scan::Past(at)
+    let n = heading_at(file, at)?;
+    let next = block_end(file, at + 3)?;
+    parsing::many_end(next, n, |at| labelled_end(file, at))
 }
 
 // The layout of the whole file.
-pub fn layout_end(file: &[u8]) -> Scan
+pub fn layout_end(file: &[u8]) -> Result<usize, Refusal>
     ensures { result ≡ past_of (program file.now 0) }
 {
-    match file_head::head_end(file, b"SPF", FILE_LIMIT) {
-        Scan::Stopped(r) => Scan::Stopped(r),
-        Scan::Past(_) => match parsing::count_at(file, 5, 1, MAX_FUNCTIONS) {
-            Count::Outside(r) => Scan::Stopped(r),
-            Count::Is(n) => match functions_end(file, 6, n) {
-                Scan::Stopped(r) => Scan::Stopped(r),
-                Scan::Past(end) => parsing::file_end(file, end),
-            },
-        },
-    }
+    file_head::head_end(file, b"SPF", FILE_LIMIT)?;
+    let n = parsing::count_at(file, 5, 1, MAX_FUNCTIONS)?;
+    let end = parsing::many_end(6, n, |at| function_end(file, at))?;
+    parsing::file_end(file, end)
 }

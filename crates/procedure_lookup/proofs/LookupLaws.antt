@@ -1,12 +1,13 @@
 -- Laws of finding a block, as the functions meet them.
-use Rattle.std.specs.Prelude.{ℕ, zero, suc, ◌-◌, ◌≤◌, ◌<◌, ◌≡◌, refl, Bool, true, false, cond, List, [], leb, ltb, get_or, drop}
+use Rattle.parsing.specs.declared.reason.Reason.TheVariants.{MissingFunction, MissingLabel}
+use Rattle.std.specs.Prelude.{ℕ, zero, suc, ◌-◌, ◌≤◌, ◌<◌, ◌≡◌, refl, Bool, true, false, cond, List, [], leb, ltb, get_or, drop, Err, Ok, Result}
 use Rattle.std.proofs.Math.Path.{sym, ap}
 use Rattle.std.proofs.Common.{ap₂, ◌∙◌, subst, arith, leb-true, le-leb, ltb-true, lt-ltb, le-ltb}
 use Rattle.std.proofs.lemmas.Bool.{lt-leb}
 use Rattle.std.proofs.Math.ListN.{length, take}
 use Rattle.std.proofs.Math.Seq.{take_at}
+use Rattle.std.specs.Result.{is_ok}
 use Rattle.parsing.specs.declared.Refusal.{Refusal}
-use Rattle.parsing.specs.declared.Checked.{Checked}
 use Rattle.parsing.specs.Bytes.{Bytes}
 use Rattle.parsing.specs.ParserLaws.{impossible}
 use Rattle.parsing.specs.Parser.{Verdict, accepted, refused, or_else, verdict_of, refusal}
@@ -23,31 +24,34 @@ use Rattle.procedure_file.proofs.AcceptedLaws.{laid_reads, passed, laid_by}
 use Rattle.procedure_file.specs.WrittenLaws.{bytes_at_block}
 use Rattle.procedure_file.specs.PlacesLaws.{block_inside, version_is_lem, start_at, label_at}
 use Rattle.procedure_file.proofs.TableLaws.{end_is, start_behind}
-use Rattle.procedure_lookup.specs.declared.Place.TheVariants.{At, Nowhere}
+use Rattle.procedure_lookup.specs.declared.Place.{Place}
 use Rattle.procedure_lookup.specs.Lookup.{block_there, lookup_of, stretch, stretch_by, stretch_of, stretch_start, place_by, place_of, part_at}
+
+abbrev pub place : ℕ → ℕ → Place
+place a b = record { from = a; to = b }
 
 -- By the table.
 module _ (s : List ℕ) (L : Laid s) (f l : ℕ) where
   abbrev P : Program
   P = program_of s
 
-  pub find_none : length P ≤ f → Nowhere (refusal 9 0) ≡ place_by (block_there P f l) P f l
+  pub find_none : length P ≤ f → Err (refusal MissingFunction 0) ≡ place_by (block_there P f l) P f l
   find_none h = rw (le-ltb f (length P) h)
 
   module _ (there : f < length P) where
-    pub find_label : length (function_of P f).blocks < l → Nowhere (refusal 8 0) ≡ place_by (block_there P f l) P f l
+    pub find_label : length (function_of P f).blocks < l → Err (refusal MissingLabel 0) ≡ place_by (block_there P f l) P f l
     find_label h = rw (lt-ltb f (length P) there, lt-leb l (length (function_of P f).blocks) h)
 
     module _ (known : l ≤ length (function_of P f).blocks) (x to : ℕ) (start : x ≡ start_of P f l) (past : to ≡ end_of (block s x)) where
-      found : (k a : ℕ) → k ≡ l → a ≡ stretch_start P f k → At a to ≡ place_by (block_there P f l) P f l
+      found : (k a : ℕ) → k ≡ l → a ≡ stretch_start P f k → Ok (place a to) ≡ place_by (block_there P f l) P f l
       found k a e h =
-          ap₂ At (h ∙ ap (stretch_start P f) e) (past ∙ ap (λ (y : ℕ). end_of (block s y)) start ∙ end_is s L f there l known)
+          ap₂ (λ (i j : ℕ). Ok (place i j)) (h ∙ ap (stretch_start P f) e) (past ∙ ap (λ (y : ℕ). end_of (block s y)) start ∙ end_is s L f there l known)
           ∙ rw (lt-ltb f (length P) there, le-leb l (length (function_of P f).blocks) known)
 
-      pub find_entry : l ≡ 0 → At x to ≡ place_by (block_there P f l) P f l
+      pub find_entry : l ≡ 0 → Ok (place x to) ≡ place_by (block_there P f l) P f l
       find_entry z = found 0 x (sym z) (start ∙ ap (start_of P f) z)
 
-      pub find_labelled : (b : ℕ) → b ≡ bytes_before (version_of s) → (l ≡ 0 → ⊥) → At (x - b) to ≡ place_by (block_there P f l) P f l
+      pub find_labelled : (b : ℕ) → b ≡ bytes_before (version_of s) → (l ≡ 0 → ⊥) → Ok (place (x - b) to) ≡ place_by (block_there P f l) P f l
       find_labelled b e n = found l (x - b) refl (ap (λ (y : ℕ). y - b) start ∙ before l n)
         where
           before : (k : ℕ) → (k ≡ 0 → ⊥) → start_of P f k - b ≡ stretch_start P f k
@@ -56,7 +60,7 @@ module _ (s : List ℕ) (L : Laid s) (f l : ℕ) where
 
 -- After the file's checks.
 module _ (s : List ℕ) (f l : ℕ) where
-  pub place_refused : (r : Checked) (q : Refusal) → verdict_of r ≡ check_of s → r ≡ Rattle.parsing.specs.declared.Checked.TheVariants.Refused q → Nowhere q ≡ place_of s f l
+  pub place_refused : (r : Result (Unit {0}) Refusal) (q : Refusal) → verdict_of r ≡ check_of s → r ≡ Err q → Err q ≡ place_of s f l
   unfolding place_of lookup_of
   place_refused r q e x = rw (← e, x)
 
@@ -65,24 +69,33 @@ module _ (s : List ℕ) (f l : ℕ) where
   place_found g k eg ek e = rw (e, eg, ek)
 
   -- What the place tells of the lookup.
-  by_place : (v : Verdict) (P : Program) (q : Refusal) → place_by v P f l ≡ Nowhere q → v ≡ refused q.number q.place
+  by_place : (v : Verdict) (P : Program) (q : Refusal) → place_by v P f l ≡ Err q → v ≡ refused q.reason q.place
   by_place accepted P q e = impossible (cc)
   by_place (refused n p) P q e =
-      let h : refusal n p ≡ q = cc in ap₂ refused (ap (λ (k : Refusal). k.number) h) (ap (λ (k : Refusal). k.place) h)
+      let h : refusal n p ≡ q = cc in ap₂ refused (ap (λ (k : Refusal). k.reason) h) (ap (λ (k : Refusal). k.place) h)
 
-  at_place : (v : Verdict) (P : Program) (a b : ℕ) → place_by v P f l ≡ At a b → (v ≡ accepted) × (a ≡ stretch_start P f l) × (b ≡ label_place P f l)
-  at_place accepted P a b e = (refl, cc, cc)
-  at_place (refused n p) P a b e = impossible (cc)
+  at_place : (v : Verdict) (P : Program) (a b : ℕ) → place_by v P f l ≡ Ok (place a b) → (v ≡ accepted) × (a ≡ stretch_start P f l) × (b ≡ label_place P f l)
+  at_place accepted Q a b e =
+      let h : place a b ≡ place (stretch_start Q f l) (label_place Q f l) = cc in
+      (refl, ap (λ (p : Place). p.from) h, ap (λ (p : Place). p.to) h)
+  at_place (refused n p) Q a b e = impossible (cc)
 
-  pub lookup_none : (q : Refusal) → place_of s f l ≡ Nowhere q → refused q.number q.place ≡ lookup_of s f l
+  pub lookup_none : (q : Refusal) → place_of s f l ≡ Err q → refused q.reason q.place ≡ lookup_of s f l
   unfolding place_of
   lookup_none q e = sym (by_place (lookup_of s f l) (program_of s) q e)
 
-  pub lookup_some : (a b : ℕ) → place_of s f l ≡ At a b → accepted ≡ lookup_of s f l
+  pub lookup_some : (a b : ℕ) → place_of s f l ≡ Ok (place a b) → accepted ≡ lookup_of s f l
   unfolding place_of
   lookup_some a b e = sym (at_place (lookup_of s f l) (program_of s) a b e).0
 
-  pub stretch_none : (q : Refusal) → place_of s f l ≡ Nowhere q → ([] ≡ part_at s (place_of s f l)) × ([] ≡ stretch_of s f l)
+  -- The answer that keeps of a place no more than its refusal.
+  pub lookup_told : (p : Result Place Refusal) (r : Result (Unit {0}) Refusal) → p ≡ place_of s f l
+      → ((q : Refusal) → p ≡ Err q → r ≡ Err q) → is_ok r ≡ is_ok p → verdict_of r ≡ lookup_of s f l
+  lookup_told (Ok p) (Ok u) e k v = lookup_some p.from p.to (sym e)
+  lookup_told (Ok p) (Err q) e k v = impossible (cc)
+  lookup_told (Err q) r e k v = ap verdict_of (k q refl) ∙ lookup_none q (sym e)
+
+  pub stretch_none : (q : Refusal) → place_of s f l ≡ Err q → ([] ≡ part_at s (place_of s f l)) × ([] ≡ stretch_of s f l)
   unfolding stretch_of place_of
   stretch_none q e = (sym (ap (part_at s) e), rw (by_place (lookup_of s f l) (program_of s) q e))
 
@@ -91,7 +104,7 @@ module _ (s : List ℕ) (f l : ℕ) where
   accepted_both accepted u e = (refl, e)
   accepted_both (refused n p) u e = impossible (cc)
 
-  there_both : (t u : Bool) → cond t (cond u accepted (refused 8 0)) (refused 9 0) ≡ accepted → (t ≡ true) × (u ≡ true)
+  there_both : (t u : Bool) → cond t (cond u accepted (refused MissingLabel 0)) (refused MissingFunction 0) ≡ accepted → (t ≡ true) × (u ≡ true)
   there_both true true e = (refl, refl)
   there_both true false e = impossible (cc)
   there_both false u e = impossible (cc)
@@ -115,7 +128,7 @@ module _ (s : List ℕ) (f l : ℕ) where
     pub inside : b ≤ length s
     pub bytes : (take (b - a) (drop a s) ≡ part_at s (place_of s f l)) × (take (b - a) (drop a s) ≡ stretch_of s f l)
 
-  pub stretch_some : Bytes s → (a b : ℕ) → place_of s f l ≡ At a b → Stretch a b
+  pub stretch_some : Bytes s → (a b : ℕ) → place_of s f l ≡ Ok (place a b) → Stretch a b
   unfolding stretch_of place_of lookup_of
   stretch_some bytes a b e =
       let p = at_place (lookup_of s f l) (program_of s) a b e in

@@ -5,61 +5,58 @@
 ghost use Rattle.std.specs.Prelude.{◌≡◌};
 ghost use Rattle.parsing.specs.Parser.{verdict_of};
 ghost use Rattle.procedure_file.specs.Check.{program_of};
-ghost use Rattle.procedure_file.specs.Loaded.{Tabled};
 ghost use Rattle.procedure_lookup.specs.Lookup.{block_there, lookup_of, stretch_of, place_by, place_of, part_at};
 
-use casts::byte_number;
-use parsing::{Checked, Refusal, refusals};
-use procedure_file::{check, table};
+use parsing::{Reason, Refusal};
+use procedure_file::check;
+use procedure_file::loaded::LoadedFile;
+use procedure_file::table::{TabledFile, block_past};
 use procedure_layout::layout;
 
 // Where a block's stretch begins and ends.
 #[derive(Drop)]
-enum Place {
-    At { from: usize, to: usize },
-    Nowhere(Refusal),
+struct Place {
+    from: usize,
+    to: usize,
 }
 
 // The place of a block, by the file's table.
-fn find(file: &[u8], starts: &[u16; 2048], f: usize, l: usize) -> Place
-    requires { Tabled file.now starts.now }
+fn find(file: &TabledFile, f: usize, l: usize) -> Result<Place, Refusal>
     ensures { result ≡ place_by (block_there (program_of file.now) f l) (program_of file.now) f l }
 {
-    let count = table::functions_of(file);
+    let count = file.functions();
     if count <= f {
-        return Place::Nowhere(Refusal {
-            number: refusals::MISSING_FUNCTION,
+        return Err(Refusal {
+            reason: Reason::MissingFunction,
             place: 0,
         });
     }
-    let labels = byte_number(table::labels_of(file, starts, f));
+    let labels = usize::from(file.labels_of(f));
     if labels < l {
-        return Place::Nowhere(Refusal {
-            number: refusals::MISSING_LABEL,
+        return Err(Refusal {
+            reason: Reason::MissingLabel,
             place: 0,
         });
     }
-    let start = table::start_of(file, starts, f, l);
-    let to = table::block_past(file, start);
+    let bytes = file.bytes();
+    let start = file.start_of(f, l);
+    let to = block_past(bytes, start);
     if l == 0 {
-        return Place::At { from: start, to };
+        return Ok(Place { from: start, to });
     }
-    let before = layout::bytes_before(file);
+    let before = layout::bytes_before(bytes);
     let from = start - before;
-    Place::At { from, to }
+    Ok(Place { from, to })
 }
 
 // The place of a block, after the file's checks.
-fn place_of(file: &[u8], f: u8, label: u8) -> Place
+fn place_of(file: &[u8], f: u8, label: u8) -> Result<Place, Refusal>
     ensures { result ≡ place_of file.now f label }
 {
-    let g = byte_number(f);
-    let l = byte_number(label);
     let mut starts = [0u16; 2048];
-    match check::load(file, &mut starts) {
-        Checked::Refused(r) => Place::Nowhere(r),
-        Checked::Accepted => find(file, &starts, g, l),
-    }
+    check::load(file, &mut starts)?;
+    let loaded = LoadedFile::new(file, &starts);
+    find(loaded.table(), usize::from(f), usize::from(label))
 }
 
 // The stretch of the lent file that a block fills, handler byte and receiver included; label 0 is the entry block. Empty where it is refused.
@@ -69,17 +66,14 @@ pub fn block(file: &[u8], f: u8, label: u8) -> &[u8]
     ensures result_value_2 { result.now ≡ stretch_of file.now f label }
 {
     match place_of(file, f, label) {
-        Place::At { from, to } => &file[from..to],
-        Place::Nowhere(_) => &file[0..0],
+        Ok(place) => &file[place.from..place.to],
+        Err(_) => &[],
     }
 }
 
 // Whether that block is there, or the refusal.
-pub fn block_refusal(file: &[u8], f: u8, label: u8) -> Checked
+pub fn block_refusal(file: &[u8], f: u8, label: u8) -> Result<(), Refusal>
     ensures { verdict_of result ≡ lookup_of file.now f label }
 {
-    match place_of(file, f, label) {
-        Place::At { .. } => Checked::Accepted,
-        Place::Nowhere(r) => Checked::Refused(r),
-    }
+    place_of(file, f, label).map(|_| ())
 }

@@ -1,10 +1,10 @@
 -- Laws of names, as the functions that judge them meet them.
-use Rattle.std.specs.Prelude.{ℕ, suc, ◌+◌, ◌-◌, ◌≤◌, ◌<◌, ◌≡◌, refl, List, [], ◌∷◌, ◌++◌, length, get_or, drop}
+use Rattle.parsing.specs.declared.reason.Reason.{Reason}
+use Rattle.parsing.specs.declared.reason.Reason.TheVariants.{CalleeArity, MissingFunction, MissingLabel, MissingVariable}
+use Rattle.std.specs.Prelude.{ℕ, suc, ◌+◌, ◌-◌, ◌≤◌, ◌<◌, ◌≡◌, refl, List, [], ◌∷◌, ◌++◌, length, get_or, drop, Err, Ok, Result}
 use Rattle.std.proofs.Common.{sym, ap, ap₂, ◌∙◌, subst, arith, le-leb, lt-ltb, le-ltb, eq-eqb, ne_eqb, drop_of_length-le, length-drop, drop-cons, get_or-take, get_or-drop, length-take-le}
 use Rattle.std.proofs.lemmas.Bool.{lt-leb}
 use Rattle.parsing.specs.declared.Refusal.{Refusal}
-use Rattle.parsing.specs.declared.Checked.{Checked}
-use Rattle.parsing.specs.declared.Checked.TheVariants.{Accepted}
 use Rattle.parsing.specs.ParserLaws.{impossible}
 use Rattle.parsing.specs.Parser.{Verdict, accepted, refused, or_else, verdict_of}
 use Rattle.semantics.specs.Program.{Block}
@@ -28,22 +28,22 @@ module _ (v place x : ℕ) where
   pub variable_right : x < v → accepted ≡ first_wrong (variable v place x ∷ [])
   variable_right h = rw (lt-ltb x v h)
 
-  pub variable_wrong : v ≤ x → refused 7 place ≡ first_wrong (variable v place x ∷ [])
+  pub variable_wrong : v ≤ x → refused MissingVariable place ≡ first_wrong (variable v place x ∷ [])
   variable_wrong h = rw (le-ltb x v h)
 
-  pub label_zero : x ≡ 0 → refused 8 place ≡ first_wrong (label v place x ∷ [])
+  pub label_zero : x ≡ 0 → refused MissingLabel place ≡ first_wrong (label v place x ∷ [])
   label_zero e = rw e
 
   pub label_right : (x ≡ 0 → ⊥) → x ≤ v → accepted ≡ first_wrong (label v place x ∷ [])
   label_right z h = rw (le-leb 1 x (omega arith), le-leb x v h)
 
-  pub label_wrong : (x ≡ 0 → ⊥) → v < x → refused 8 place ≡ first_wrong (label v place x ∷ [])
+  pub label_wrong : (x ≡ 0 → ⊥) → v < x → refused MissingLabel place ≡ first_wrong (label v place x ∷ [])
   label_wrong z h = rw (le-leb 1 x (omega arith), lt-leb x v h)
 
   pub handler_right : x ≤ v → accepted ≡ first_wrong (handler v place x ∷ [])
   handler_right h = rw (le-leb x v h)
 
-  pub handler_wrong : v < x → refused 8 place ≡ first_wrong (handler v place x ∷ [])
+  pub handler_wrong : v < x → refused MissingLabel place ≡ first_wrong (handler v place x ∷ [])
   handler_wrong h = rw (lt-leb x v h)
 
 -- A receiver, by its byte.
@@ -59,7 +59,7 @@ module _ (ps : List ℕ) (f c g n : ℕ) where
   abbrev pub callee_names : List Name
   callee_names = function ps f g ∷ arity ps c g n ∷ []
 
-  pub callee_none : length ps ≤ g → refused 9 f ≡ first_wrong callee_names
+  pub callee_none : length ps ≤ g → refused MissingFunction f ≡ first_wrong callee_names
   callee_none h = rw (le-ltb g (length ps) h)
 
   pub callee_right : (k a : ℕ) → (k ≡ g) × (g < length ps) → a ≡ get_or ps k 0 → a ≡ n → accepted ≡ first_wrong callee_names
@@ -67,7 +67,7 @@ module _ (ps : List ℕ) (f c g n : ℕ) where
       let q : get_or ps g 0 ≡ n = ap (λ (i : ℕ). get_or ps i 0) (sym h.0) ∙ sym e ∙ w in
       rw (lt-ltb g (length ps) h.1, eq-eqb n (get_or ps g 0) (sym q))
 
-  pub callee_wrong : (k a : ℕ) → (k ≡ g) × (g < length ps) → a ≡ get_or ps k 0 → (a ≡ n → ⊥) → refused 10 c ≡ first_wrong callee_names
+  pub callee_wrong : (k a : ℕ) → (k ≡ g) × (g < length ps) → a ≡ get_or ps k 0 → (a ≡ n → ⊥) → refused CalleeArity c ≡ first_wrong callee_names
   callee_wrong k a h e w =
       let q : get_or ps g 0 ≡ a = ap (λ (i : ℕ). get_or ps i 0) (sym h.0) ∙ sym e in
       rw (lt-ltb g (length ps) h.1, ne_eqb n (get_or ps g 0) (λ z. w (sym q ∙ sym z)))
@@ -96,11 +96,19 @@ module _ (s : List ℕ) (v at n : ℕ) (room : at + 4 + n ≤ length s) where
         drop-cons (arguments_at s at n) i 0 (omega (arith, arguments_length))
         ∙ ap₂ ◌∷◌ (argument_is i (omega arith) ∙ ap (λ (k : ℕ). get_or s k 0) q) (ap (λ (k : ℕ). drop k (arguments_at s at n)) p)
 
-    pub argument_on : get_or s place 0 < v → arguments_left (place + 1) ≡ arguments_left place
-    argument_on h = rw (first, lt-ltb (get_or s place 0) v h)
+    abbrev argument : List Name
+    argument = variable v place (get_or s place 0) ∷ []
 
-    pub argument_wrong : v ≤ get_or s place 0 → refused 7 place ≡ arguments_left place
-    argument_wrong h = rw (first, le-ltb (get_or s place 0) v h)
+    argument_split : arguments_left place ≡ or_else (first_wrong argument) (arguments_left (place + 1))
+    argument_split =
+        ap (λ (ys : List ℕ). first_wrong (arguments v place ys)) first
+        ∙ first_append argument (arguments v (place + 1) (drop (place + 1 - (at + 4)) (arguments_at s at n)))
+
+    pub argument_on : accepted ≡ first_wrong argument → arguments_left (place + 1) ≡ arguments_left place
+    argument_on e = sym (argument_split ∙ ap (λ u. or_else u (arguments_left (place + 1))) (sym e))
+
+    pub argument_wrong : {k : Reason} {p : ℕ} → refused k p ≡ first_wrong argument → refused k p ≡ arguments_left place
+    argument_wrong e = ap (λ u. or_else u (arguments_left (place + 1))) e ∙ sym argument_split
 
   pub arguments_done : (place : ℕ) → at + 4 + n ≤ place → accepted ≡ arguments_left place
   arguments_done place h = rw (drop_of_length-le (arguments_at s at n) {i = place - (at + 4)} (omega (arith, arguments_length)))
@@ -198,7 +206,7 @@ module _ (ps : List ℕ) (v n : ℕ) (s : List ℕ) where
   block_last at e = ap (λ (b : Block). first_wrong (block_names ps v n at b)) (rest_law s at) ∙ last at (view s at) e
 
   -- A name of the first operation is wrong.
-  pub block_wrong : (at k p : ℕ) → refused k p ≡ first_wrong (operation_names ps v n s at (operation_at s at)) → refused k p ≡ block_verdict at
+  pub block_wrong : (at : ℕ) (k : Reason) (p : ℕ) → refused k p ≡ first_wrong (operation_names ps v n s at (operation_at s at)) → refused k p ≡ block_verdict at
   block_wrong at k p e = wrong (view s at) e ∙ sym (ap (λ (b : Block). first_wrong (block_names ps v n at b)) (rest_law s at))
     where
       on : {o : Operation} (next : ℕ) → View s at o → after_of o ≡ Onward next → refused k p ≡ first_wrong (operation_names ps v n s at o)
@@ -218,19 +226,19 @@ module _ (ps : List ℕ) (v n : ℕ) (s : List ℕ) where
       wrong (is_refused r) e = e
 
   -- A turn of the loop over a block.
-  module _ (at : ℕ) (o : Operation) (r : Checked) (is : o ≡ operation_at s at) (bare_stop : verdict_of r ≡ first_wrong (operation_names ps v n s at o)) where
+  module _ (at : ℕ) (o : Operation) (r : Result (Unit {0}) Refusal) (is : o ≡ operation_at s at) (bare_stop : verdict_of r ≡ first_wrong (operation_names ps v n s at o)) where
     first_is : verdict_of r ≡ first_wrong (operation_names ps v n s at (operation_at s at))
     first_is = rw is at bare_stop
 
-    pub turn_wrong : (q : Refusal) → r ≡ Rattle.parsing.specs.declared.Checked.TheVariants.Refused q → refused q.number q.place ≡ block_verdict at
-    turn_wrong q e = block_wrong at q.number q.place (sym (ap verdict_of e) ∙ first_is)
+    pub turn_wrong : (q : Refusal) → r ≡ Err q → refused q.reason q.place ≡ block_verdict at
+    turn_wrong q e = block_wrong at q.reason q.place (sym (ap verdict_of e) ∙ first_is)
 
-    pub turn_on : (next : ℕ) (a : After) → r ≡ Accepted → a ≡ after_of o → a ≡ Onward next → block_verdict next ≡ block_verdict at
+    pub turn_on : (next : ℕ) (a : After) → r ≡ (Ok tt) → a ≡ after_of o → a ≡ Onward next → block_verdict next ≡ block_verdict at
     turn_on next a e f g =
         let w : accepted ≡ first_wrong (operation_names ps v n s at (operation_at s at)) = sym (ap verdict_of e) ∙ first_is in
         sym (block_on at next (ap after_of (sym is) ∙ sym f ∙ g) ∙ ap (λ u. or_else u (block_verdict next)) (sym w))
 
-    pub turn_last : (a : After) → r ≡ Accepted → a ≡ after_of o → ((next : ℕ) → a ≡ Onward next → ⊥) → accepted ≡ block_verdict at
+    pub turn_last : (a : After) → r ≡ (Ok tt) → a ≡ after_of o → ((next : ℕ) → a ≡ Onward next → ⊥) → accepted ≡ block_verdict at
     turn_last a e f g =
         sym (ap verdict_of e) ∙ first_is ∙ sym (block_last at (λ next w. g next (f ∙ ap after_of is ∙ w)))
 

@@ -2,40 +2,41 @@
 use Rattle.std.specs.Prelude.{ℕ, ◌+◌, Bool, cond, true, false, List, [], ◌∷◌, ◌++◌, map, leb, ltb, eqb, length, get_or}
 use Rattle.std.proofs.Math.Option.{Option, none, some}
 use Rattle.semantics.specs.Program.{Variable, Label, Handler, FunctionNumber, Block, constant, copy, difference, call, goto, return, branch, raise, Labelled, Function, Program, variables}
-use Rattle.parsing.specs.Refusals.{missing_variable, missing_label, missing_function, callee_arity}
+use Rattle.parsing.specs.declared.reason.Reason.{Reason}
+use Rattle.parsing.specs.declared.reason.Reason.TheVariants.{MissingVariable, MissingLabel, MissingFunction, CalleeArity}
 use Rattle.parsing.specs.Parser.{Verdict, accepted, refused}
 use Rattle.procedure_layout.specs.Layout.{bytes_before}
 use Rattle.procedure_names.specs.Writing.{block_bytes, labelled_bytes, function_bytes}
 
--- A name that is not right is refused with its number, at its place.
+-- A name that is not right is refused for its reason, at its place.
 pub record Name : Type 0 where
-  pub number : ℕ
+  pub reason : Reason
   pub place : ℕ
   pub right : Bool
 
 -- "7 no such variable", of v variables.
 abbrev pub variable : ℕ → ℕ → Variable → Name
-variable v place x = record { number = missing_variable; place = place; right = ltb x v }
+variable v place x = record { reason = MissingVariable; place = place; right = ltb x v }
 
 -- "8 no such label or handler label", of the labels 1 to n; no handler is 0.
 abbrev pub label : ℕ → ℕ → Label → Name
-label n place l = record { number = missing_label; place = place; right = cond (leb 1 l) (leb l n) false }
+label n place l = record { reason = MissingLabel; place = place; right = cond (leb 1 l) (leb l n) false }
 
 abbrev pub handler : ℕ → ℕ → Handler → Name
-handler n place h = record { number = missing_label; place = place; right = leb h n }
+handler n place h = record { reason = MissingLabel; place = place; right = leb h n }
 
 -- "7 no such variable", of a receiver (document 02, Slip 7), where there is one.
 abbrev pub receiver : ℕ → ℕ → Option Variable → Name
-receiver v place none = record { number = missing_variable; place = place; right = true }
+receiver v place none = record { reason = MissingVariable; place = place; right = true }
 receiver v place (some x) = variable v place x
 
 -- "9 no such function", where the functions have these numbers of parameters.
 abbrev pub function : List ℕ → ℕ → FunctionNumber → Name
-function ps place g = record { number = missing_function; place = place; right = ltb g (length ps) }
+function ps place g = record { reason = MissingFunction; place = place; right = ltb g (length ps) }
 
 -- "10 argument count unlike the callee's (at the count)."
 abbrev pub arity : List ℕ → ℕ → FunctionNumber → ℕ → Name
-arity ps place g n = record { number = callee_arity; place = place; right = eqb n (get_or ps g 0) }
+arity ps place g n = record { reason = CalleeArity; place = place; right = eqb n (get_or ps g 0) }
 
 abbrev pub arguments : ℕ → ℕ → List Variable → List Name
 arguments v place [] = []
@@ -85,4 +86,4 @@ names_of P = functions_names (arities P) 6 P
 -- The first name that is not right.
 abbrev pub first_wrong : List Name → Verdict
 first_wrong [] = accepted
-first_wrong (x ∷ xs) = cond x.right (first_wrong xs) (refused x.number x.place)
+first_wrong (x ∷ xs) = cond x.right (first_wrong xs) (refused x.reason x.place)

@@ -17,7 +17,7 @@ first_append [] ys = refl
 first_append (x ∷ xs) ys = go x.right (first_append xs ys)
   where
     go : (t : Bool) → first_wrong (xs ++ ys) ≡ or_else (first_wrong xs) (first_wrong ys)
-        → cond t (first_wrong (xs ++ ys)) (refused x.number x.place) ≡ or_else (cond t (first_wrong xs) (refused x.number x.place)) (first_wrong ys)
+        → cond t (first_wrong (xs ++ ys)) (refused x.reason x.place) ≡ or_else (cond t (first_wrong xs) (refused x.reason x.place)) (first_wrong ys)
     go true e = e
     go false e = refl
 
@@ -29,7 +29,7 @@ module _ (x : Name) (xs : List Name) where
   pub one_right : first_wrong (x ∷ xs) ≡ accepted → (x.right ≡ true) × (first_wrong xs ≡ accepted)
   one_right e = go x.right refl e
     where
-      go : (t : Bool) → x.right ≡ t → cond t (first_wrong xs) (refused x.number x.place) ≡ accepted → (x.right ≡ true) × (first_wrong xs ≡ accepted)
+      go : (t : Bool) → x.right ≡ t → cond t (first_wrong xs) (refused x.reason x.place) ≡ accepted → (x.right ≡ true) × (first_wrong xs ≡ accepted)
       go true r w = (r, w)
       go false r w = impossible (cc)
 

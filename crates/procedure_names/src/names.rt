@@ -8,54 +8,45 @@ ghost use Rattle.procedure_names.specs.Names.{variable, label, receiver, functio
 ghost use Rattle.procedure_names.specs.OperationNames.{operation_names};
 ghost use Rattle.procedure_operations.specs.declared.operation.Operation.TheVariants.{Call};
 
-use parsing::{Checked, Refusal, or_else, refusals};
+use parsing::{Reason, Refusal, or_else};
 use procedure_layout::layout;
 use procedure_layout::layout::After;
-use procedure_operations::numbers::{
-    FunctionFound, FunctionNumber, VariableFound, function_number, variable_number,
-};
+use procedure_operations::numbers::{FunctionNumber, function_number, variable_number};
 use procedure_operations::operation;
 use procedure_operations::operation::Operation;
 
-fn variable_named(x: u8, variables: usize, place: usize) -> Checked
+fn variable_named(x: u8, variables: usize, place: usize) -> Result<(), Refusal>
     ensures { verdict_of result ≡ first_wrong (variable variables place x ∷ []) }
 {
     match variable_number(x, variables) {
-        VariableFound::Variable(_) => Checked::Accepted,
-        VariableFound::NoVariable => Checked::Refused(Refusal {
-            number: refusals::MISSING_VARIABLE,
+        Some(_) => Ok(()),
+        None => Err(Refusal {
+            reason: Reason::MissingVariable,
             place,
         }),
     }
 }
 
 // A receiver, by its byte (document 02, Slip 7).
-pub fn receiver_named(x: u8, variables: usize, place: usize) -> Checked
+pub fn receiver_named(x: u8, variables: usize, place: usize) -> Result<(), Refusal>
     ensures { verdict_of result ≡ first_wrong (receiver variables place (as_receiver x) ∷ []) }
 {
     if x == 255 {
-        return Checked::Accepted;
+        return Ok(());
     }
     variable_named(x, variables, place)
 }
 
-fn label_named(l: u8, labels: usize, place: usize) -> Checked
+fn label_named(l: u8, labels: usize, place: usize) -> Result<(), Refusal>
     ensures { verdict_of result ≡ first_wrong (label labels place l ∷ []) }
 {
-    if l == 0 {
-        return Checked::Refused(Refusal {
-            number: refusals::MISSING_LABEL,
+    if l == 0 || labels < usize::from(l) {
+        return Err(Refusal {
+            reason: Reason::MissingLabel,
             place,
         });
     }
-    if (l as usize) <= labels {
-        Checked::Accepted
-    } else {
-        Checked::Refused(Refusal {
-            number: refusals::MISSING_LABEL,
-            place,
-        })
-    }
+    Ok(())
 }
 
 // The number of parameters of a function that is there.
@@ -63,60 +54,42 @@ fn arity_of(params: &[u8], g: FunctionNumber) -> u8
     requires { g.0 < length params.now }
     ensures { result ≡ get_or params.now g.0 0 }
 {
-    let i = g.index();
-    params[i]
+    params[g.index()]
 }
 
 // The function and the argument count of the call at an offset.
-fn callee_named(params: &[u8], g: u8, count: u8, at: usize) -> Checked
+fn callee_named(params: &[u8], g: u8, count: u8, at: usize) -> Result<(), Refusal>
     requires { at < 9223372036854775808 }
     ensures { verdict_of result ≡ first_wrong (function params.now (at + 2) g ∷ arity params.now (at + 3) g count ∷ []) }
 {
-    let function_place = at + 2;
-    let count_place = at + 3;
-    match function_number(g, params.len()) {
-        FunctionFound::NoFunction => Checked::Refused(Refusal {
-            number: refusals::MISSING_FUNCTION,
-            place: function_place,
-        }),
-        FunctionFound::Function(callee) => {
-            if arity_of(params, callee) == count {
-                Checked::Accepted
-            } else {
-                Checked::Refused(Refusal {
-                    number: refusals::CALLEE_ARITY,
-                    place: count_place,
-                })
-            }
-        }
+    let Some(callee) = function_number(g, params.len()) else {
+        return Err(Refusal {
+            reason: Reason::MissingFunction,
+            place: at + 2,
+        });
+    };
+    if arity_of(params, callee) != count {
+        return Err(Refusal {
+            reason: Reason::CalleeArity,
+            place: at + 3,
+        });
     }
+    Ok(())
 }
 
 // The arguments of the call at an offset.
-fn arguments_named(file: &[u8], at: usize, count: u8, variables: usize) -> Checked
+fn arguments_named(file: &[u8], at: usize, count: u8, variables: usize) -> Result<(), Refusal>
     requires { at + 4 + count ≤ length file.now }
     ensures { verdict_of result ≡ first_wrong (arguments variables (at + 4) (arguments_at file.now at count)) }
 {
-    let mut place = at + 4;
-    let end = place + (count as usize);
-    while place < end {
-        match variable_number(file[place], variables) {
-            VariableFound::Variable(_) => {
-                place += 1;
-            }
-            VariableFound::NoVariable => {
-                return Checked::Refused(Refusal {
-                    number: refusals::MISSING_VARIABLE,
-                    place,
-                });
-            }
-        }
+    for place in at + 4..at + 4 + usize::from(count) {
+        variable_named(file[place], variables, place)?;
     }
-    Checked::Accepted
+    Ok(())
 }
 
 // The two variables of the operation at an offset.
-fn two_named(x: u8, y: u8, variables: usize, at: usize) -> Checked
+fn two_named(x: u8, y: u8, variables: usize, at: usize) -> Result<(), Refusal>
     requires { at < 9223372036854775808 }
     ensures { verdict_of result ≡ first_wrong (variable variables (at + 1) x ∷ variable variables (at + 2) y ∷ []) }
 {
@@ -127,7 +100,7 @@ fn two_named(x: u8, y: u8, variables: usize, at: usize) -> Checked
 }
 
 // The three variables of the operation at an offset.
-fn three_named(x: u8, y: u8, z: u8, variables: usize, at: usize) -> Checked
+fn three_named(x: u8, y: u8, z: u8, variables: usize, at: usize) -> Result<(), Refusal>
     requires { at < 9223372036854775808 }
     ensures { verdict_of result ≡ first_wrong (variable variables (at + 1) x ∷ variable variables (at + 2) y ∷ variable variables (at + 3) z ∷ []) }
 {
@@ -138,7 +111,7 @@ fn three_named(x: u8, y: u8, z: u8, variables: usize, at: usize) -> Checked
 }
 
 // The two labels of the branch at an offset.
-fn labels_named(l: u8, m: u8, labels: usize, at: usize) -> Checked
+fn labels_named(l: u8, m: u8, labels: usize, at: usize) -> Result<(), Refusal>
     requires { at < 9223372036854775808 }
     ensures { verdict_of result ≡ first_wrong (label labels (at + 3) l ∷ label labels (at + 4) m ∷ []) }
 {
@@ -157,18 +130,25 @@ fn call_named(
     count: u8,
     params: &[u8],
     variables: usize,
-) -> Checked
+) -> Result<(), Refusal>
     requires { at + 4 + count ≤ length file.now }
     ensures { verdict_of result ≡ first_wrong (operation_names params.now variables 0 file.now at (Call target callee count 0)) }
 {
-    let x = variable_named(target, variables, at + 1);
-    let g = callee_named(params, callee, count, at);
-    let ys = arguments_named(file, at, count, variables);
-    or_else(x, or_else(g, ys))
+    variable_named(target, variables, at + 1)?;
+    callee_named(params, callee, count, at)?;
+    arguments_named(file, at, count, variables)
 }
 
 // The branch at an offset.
-fn branch_named(at: usize, y: u8, z: u8, l: u8, m: u8, variables: usize, labels: usize) -> Checked
+fn branch_named(
+    at: usize,
+    y: u8,
+    z: u8,
+    l: u8,
+    m: u8,
+    variables: usize,
+    labels: usize,
+) -> Result<(), Refusal>
     requires { at < 9223372036854775808 }
     ensures { verdict_of result ≡ first_wrong (variable variables (at + 1) y ∷ variable variables (at + 2) z ∷ label labels (at + 3) l ∷ label labels (at + 4) m ∷ []) }
 {
@@ -186,12 +166,12 @@ fn operation_named(
     params: &[u8],
     variables: usize,
     labels: usize,
-) -> Checked
+) -> Result<(), Refusal>
     requires { o ≡ operation_at file.now at }
     ensures { verdict_of result ≡ first_wrong (operation_names params.now variables labels file.now at o) }
 {
     if file.len() <= at {
-        return Checked::Accepted;
+        return Ok(());
     }
     match o {
         Operation::Constant { target, .. } => variable_named(target, variables, at + 1),
@@ -217,9 +197,9 @@ fn operation_named(
             other,
             ..
         } => branch_named(at, left, right, least, other, variables, labels),
-        Operation::Raise { .. } => Checked::Accepted,
+        Operation::Raise { .. } => Ok(()),
         Operation::RaiseValue { variable, .. } => variable_named(variable, variables, at + 1),
-        Operation::Refused(_) => Checked::Accepted,
+        Operation::Refused(_) => Ok(()),
     }
 }
 
@@ -230,27 +210,19 @@ pub fn block_named(
     params: &[u8],
     variables: usize,
     labels: usize,
-) -> Checked
+) -> Result<(), Refusal>
     ensures { verdict_of result ≡ first_wrong (block_names params.now variables labels start (rest_at file.now start)) }
 {
     let mut at = start;
     loop {
         let o = operation::operation_at(file, at);
-        match operation_named(file, at, o, params, variables, labels) {
-            Checked::Refused(r) => {
-                return Checked::Refused(r);
-            }
-            Checked::Accepted => {}
-        }
+        operation_named(file, at, o, params, variables, labels)?;
         match layout::after_of(o) {
             After::Onward(next) => {
                 at = next;
             }
-            After::Ended(_) => {
-                return Checked::Accepted;
-            }
-            After::Halted(_) => {
-                return Checked::Accepted;
+            After::Ended(_) | After::Halted(_) => {
+                return Ok(());
             }
         }
     }

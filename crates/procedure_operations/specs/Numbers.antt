@@ -1,10 +1,9 @@
 -- Function numbers and variable numbers: "two sets with nothing in common".
-use Rattle.std.specs.Prelude.{ℕ, cond, ltb}
-use Rattle.parsing.specs.Refusals.{missing_variable, missing_function}
-use Rattle.procedure_operations.specs.declared.numbers.FunctionFound.{FunctionFound}
-use Rattle.procedure_operations.specs.declared.numbers.FunctionFound.TheVariants.{Function, NoFunction}
-use Rattle.procedure_operations.specs.declared.numbers.VariableFound.{VariableFound}
-use Rattle.procedure_operations.specs.declared.numbers.VariableFound.TheVariants.{Variable, NoVariable}
+use Rattle.procedure_operations.specs.declared.numbers.VariableNumber.{VariableNumber}
+use Rattle.procedure_operations.specs.declared.numbers.FunctionNumber.{FunctionNumber}
+use Rattle.std.specs.Prelude.{ℕ, cond, ltb, None, Option, Some}
+use Rattle.parsing.specs.declared.reason.Reason.{Reason}
+use Rattle.parsing.specs.declared.reason.Reason.TheVariants.{MissingVariable, MissingFunction}
 
 -- "Function count (1 to 32)."
 abbrev pub max_functions : ℕ
@@ -14,21 +13,21 @@ max_functions = 32
 abbrev pub max_variables : ℕ
 max_variables = 32
 
--- What a search says: the number that is there, or document 01's refusal.
+-- What a search says: the number that is there, or why there is none.
 pub data Found : Type 0 where
   there : ℕ → Found
-  missing : (refusal : ℕ) → Found
+  missing : Reason → Found
 
 -- A number in its range, or the refusal.
-unfoldable pub found : ℕ → ℕ → ℕ → Found
-found refusal x count = cond (ltb x count) (there x) (missing refusal)
+unfoldable pub found : Reason → ℕ → ℕ → Found
+found reason x count = cond (ltb x count) (there x) (missing reason)
 
 -- "9 no such function."
-abbrev pub function_as : FunctionFound → Found
-function_as (Function g) = there g.0
-function_as NoFunction = missing missing_function
+abbrev pub function_as : Option FunctionNumber → Found
+function_as (Some g) = there g.0
+function_as None = missing MissingFunction
 
 -- "7 no such variable."
-abbrev pub variable_as : VariableFound → Found
-variable_as (Variable x) = there x.0
-variable_as NoVariable = missing missing_variable
+abbrev pub variable_as : Option VariableNumber → Found
+variable_as (Some x) = there x.0
+variable_as None = missing MissingVariable

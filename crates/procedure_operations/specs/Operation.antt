@@ -1,6 +1,6 @@
 -- The operation at an offset of a file (document 01, 'The procedure file'): "The operation byte decides among eight forms", in version 2 among nine (document 02, Slip 7).
 use Rattle.std.specs.Prelude.{ℕ, ◌+◌, cond, List, leb, eqb, length, get_or, take, drop}
-use Rattle.parsing.specs.Refusals.{unknown}
+use Rattle.parsing.specs.declared.reason.Reason.TheVariants.{Unknown}
 use Rattle.parsing.specs.Parser.{refusal}
 use Rattle.parsing.specs.Fields.{cut, version_of, value_at}
 use Rattle.procedure_operations.specs.declared.operation.Operation.{Operation}
@@ -47,7 +47,7 @@ branch_at s at =
 
 -- "Operation 9 raises a variable's value and ends its block" (document 02, Slip 7), in version 2; else "6 unknown operation".
 unfoldable pub raise_value_at : List ℕ → ℕ → Operation
-raise_value_at s at = cond (eqb (version_of s) 2) (whole s (at + 2) (RaiseValue (get_or s (at + 1) 0) (at + 2))) (Refused (refusal unknown at))
+raise_value_at s at = cond (eqb (version_of s) 2) (whole s (at + 2) (RaiseValue (get_or s (at + 1) 0) (at + 2))) (Refused (refusal Unknown at))
 
 -- "8 raise." "6 unknown operation."
 unfoldable pub end_at : List ℕ → ℕ → ℕ → Operation
@@ -57,7 +57,7 @@ end_at s at number =
     (cond (eqb number 7) (branch_at s at)
     (cond (eqb number 8) (Raise (at + 1))
     (cond (eqb number 9) (raise_value_at s at)
-    (Refused (refusal unknown at))))))
+    (Refused (refusal Unknown at))))))
 
 unfoldable pub operation_at : List ℕ → ℕ → Operation
 operation_at s at =

@@ -1,4 +1,5 @@
 -- Laws of the operation at an offset, as the functions that read it meet them.
+use Rattle.parsing.specs.declared.reason.Reason.TheVariants.{Unknown}
 use Rattle.std.specs.Prelude.{ℕ, ◌+◌, ◌≤◌, ◌<◌, ◌≡◌, refl, ◌≢◌, List, length}
 use Rattle.std.proofs.Common.{ap, ◌∙◌, arith}
 use borrow.Author.Tests.{le-leb, lt-leb, eq-eqb, ne_eqb}
@@ -58,7 +59,7 @@ module _ (s : List ℕ) (at : ℕ) where
   unfolding branch_at
   branch_in h = rw (le-leb (at + 5) (length s) h)
 
-  pub raise_value_unknown : version_of s ≢ 2 → raise_value_at s at ≡ Refused (refusal 6 at)
+  pub raise_value_unknown : version_of s ≢ 2 → raise_value_at s at ≡ Refused (refusal Unknown at)
   unfolding raise_value_at
   raise_value_unknown n = rw (ne_eqb (version_of s) 2 n)
 
@@ -105,7 +106,7 @@ module _ (s : List ℕ) (at n : ℕ) where
   unfolding end_at
   end_9 e = rw e
 
-  pub end_unknown : n ≢ 5 → n ≢ 6 → n ≢ 7 → n ≢ 8 → n ≢ 9 → end_at s at n ≡ Refused (refusal 6 at)
+  pub end_unknown : n ≢ 5 → n ≢ 6 → n ≢ 7 → n ≢ 8 → n ≢ 9 → end_at s at n ≡ Refused (refusal Unknown at)
   unfolding end_at
   end_unknown a b c d e = rw (ne_eqb n 5 a, ne_eqb n 6 b, ne_eqb n 7 c, ne_eqb n 8 d, ne_eqb n 9 e)
 
@@ -138,7 +139,7 @@ module _ (s : List ℕ) (at : ℕ) (inside : at < length s) where
         let n = get_or s at 0 in
         rw (lt-leb (length s) at inside, ne_eqb n 1 a, ne_eqb n 2 b, ne_eqb n 3 c, ne_eqb n 4 d)
 
-    pub operation_unknown : get_or s at 0 ≢ 5 → get_or s at 0 ≢ 6 → get_or s at 0 ≢ 7 → get_or s at 0 ≢ 8 → get_or s at 0 ≢ 9 → operation_at s at ≡ Refused (refusal 6 at)
+    pub operation_unknown : get_or s at 0 ≢ 5 → get_or s at 0 ≢ 6 → get_or s at 0 ≢ 7 → get_or s at 0 ≢ 8 → get_or s at 0 ≢ 9 → operation_at s at ≡ Refused (refusal Unknown at)
     operation_unknown e f g h i = rw operation_end (end_unknown s at (get_or s at 0) e f g h i)
 
 -- An operation that ends a block, at an offset.

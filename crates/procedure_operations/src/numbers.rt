@@ -1,6 +1,6 @@
 // Function numbers and variable numbers: "two sets with nothing in common", made only where their range is known.
 ghost use Rattle.std.specs.Prelude.{◌≡◌, ◌<◌};
-ghost use Rattle.parsing.specs.Refusals.{missing_variable, missing_function};
+ghost use Rattle.parsing.specs.declared.reason.Reason.TheVariants.{MissingVariable, MissingFunction};
 ghost use Rattle.procedure_operations.specs.Numbers.{max_functions, max_variables, found, function_as, variable_as};
 
 // As usize: of neighbouring bytes the compiler makes one load, and takes it apart again, 1.4 instructions more a step of the bench (docs/MEASURES.md).
@@ -26,37 +26,27 @@ impl VariableNumber {
     }
 }
 
-#[derive(Drop)]
-pub enum FunctionFound {
-    Function(FunctionNumber),
-    NoFunction,
-}
-
-#[derive(Drop)]
-pub enum VariableFound {
-    Variable(VariableNumber),
-    NoVariable,
-}
-
 // The number of a function, of `functions`.
-pub fn function_number(g: u8, functions: usize) -> FunctionFound
-    ensures { function_as result ≡ found missing_function g functions }
+pub fn function_number(g: u8, functions: usize) -> Option<FunctionNumber>
+    ensures { function_as result ≡ found MissingFunction g functions }
 {
-    if (g as usize) < functions {
-        FunctionFound::Function(FunctionNumber(g as usize))
+    let number = usize::from(g);
+    if number < functions {
+        Some(FunctionNumber(number))
     } else {
-        FunctionFound::NoFunction
+        None
     }
 }
 
 // The number of a variable, of `variables`.
-pub fn variable_number(x: u8, variables: usize) -> VariableFound
-    ensures { variable_as result ≡ found missing_variable x variables }
+pub fn variable_number(x: u8, variables: usize) -> Option<VariableNumber>
+    ensures { variable_as result ≡ found MissingVariable x variables }
 {
-    if (x as usize) < variables {
-        VariableFound::Variable(VariableNumber(x as usize))
+    let number = usize::from(x);
+    if number < variables {
+        Some(VariableNumber(number))
     } else {
-        VariableFound::NoVariable
+        None
     }
 }
 
@@ -65,7 +55,7 @@ pub fn checked_function(g: u8) -> FunctionNumber
     requires { g < max_functions }
     ensures { result.0 ≡ g }
 {
-    FunctionNumber(g as usize)
+    FunctionNumber(usize::from(g))
 }
 
 // The number of a variable of a checked file.
@@ -73,5 +63,5 @@ pub fn checked_variable(x: u8) -> VariableNumber
     requires { x < max_variables }
     ensures { result.0 ≡ x }
 {
-    VariableNumber(x as usize)
+    VariableNumber(usize::from(x))
 }

@@ -3,7 +3,7 @@ ghost use Rattle.std.specs.Prelude.{◌≡◌, length, ◌+◌, ◌<◌};
 ghost use Rattle.parsing.specs.Fields.{cut};
 ghost use Rattle.procedure_operations.specs.Operation.{operation_at, constant_at, copy_at, difference_at, call_at, goto_at, return_at, branch_at, raise_value_at, end_at};
 
-use parsing::{Refusal, refusals};
+use parsing::{Reason, Refusal};
 
 // An operation as it stands in the file, with the offset past it. Its names are not judged here.
 #[derive(Clone, Copy)]
@@ -59,7 +59,7 @@ fn cut(file: &[u8]) -> Operation
     ensures { result ≡ Operation.Refused (cut file.now) }
 {
     Operation::Refused(Refusal {
-        number: refusals::ENDS_EARLY,
+        reason: Reason::EndsEarly,
         place: file.len(),
     })
 }
@@ -122,7 +122,7 @@ fn call_at(file: &[u8], at: usize) -> Operation
         return cut(file);
     }
     let count = file[at + 3];
-    let next = arguments + (count as usize);
+    let next = arguments + usize::from(count);
     if file.len() < next {
         return cut(file);
     }
@@ -186,7 +186,7 @@ fn raise_value_at(file: &[u8], at: usize) -> Operation
 {
     if parsing::version_of(file) != 2 {
         return Operation::Refused(Refusal {
-            number: refusals::UNKNOWN,
+            reason: Reason::Unknown,
             place: at,
         });
     }
@@ -212,7 +212,7 @@ fn end_at(file: &[u8], at: usize, number: u8) -> Operation
         8 => Operation::Raise { next: at + 1 },
         9 => raise_value_at(file, at),
         _ => Operation::Refused(Refusal {
-            number: refusals::UNKNOWN,
+            reason: Reason::Unknown,
             place: at,
         }),
     }
@@ -233,7 +233,7 @@ pub fn operation_at(file: &[u8], at: usize) -> Operation
         4 => call_at(file, at),
         5..=9 => end_at(file, at, number),
         _ => Operation::Refused(Refusal {
-            number: refusals::UNKNOWN,
+            reason: Reason::Unknown,
             place: at,
         }),
     }

@@ -1,8 +1,8 @@
 -- What program `both` prints for an input (document 01, 'The test procedure and its neighbours').
-use Rattle.std.specs.Prelude.{ℕ, zero, suc, ◌+◌, ◌*◌, cond, List, [], ◌∷◌, ◌++◌, leb, ℤ, length, get_or, drop}
-use Rattle.parsing.specs.declared.Scan.{Scan}
-use Rattle.parsing.specs.declared.Scan.TheVariants.{Past, Stopped}
+use Rattle.parsing.specs.declared.Refusal.{Refusal}
+use Rattle.std.specs.Prelude.{ℕ, zero, suc, ◌+◌, ◌*◌, cond, List, [], ◌∷◌, ◌++◌, leb, ℤ, length, get_or, drop, Err, Ok, Result}
 use Rattle.parsing.specs.Fields.{version_of, head, value_of}
+use Rattle.parsing.specs.Refusals.{number_of}
 use Rattle.text.specs.Text.{both_text, refused_text, no_header_text}
 use Rattle.parsing.specs.Parser.{Verdict, accepted, refused, or_else, past_of}
 use Rattle.memory.specs.Frame.{frame_size}
@@ -48,13 +48,13 @@ header_of s = 4 * count_of s + 7
 
 -- Both runs on a file of a version, or the refusal.
 unfoldable pub sides_text : ℕ → Tells SidesSummary → List ℕ
-sides_text version (refuses number place) = refused_text number place
+sides_text version (refuses reason place) = refused_text (number_of reason) place
 sides_text version (tells t) = both_text version t.target t.bench.result.stop t.bench.result.steps t.controller.stop t.controller.steps
 
 -- The text by a verdict: the refusal, or that of what was accepted.
 abbrev pub text_by : Verdict → List ℕ → List ℕ
 text_by accepted text = text
-text_by (refused number place) text = refused_text number place
+text_by (refused reason place) text = refused_text (number_of reason) place
 
 -- Of an accepted file: "it lends 8,192 bytes for the translation, made before either run, so its 16 comes before a run's 14." Each machine
 -- is lent 48 words for each of 256 frames.
@@ -62,9 +62,9 @@ unfoldable pub loaded_text : List ℕ → List ℤ → ℕ → ℕ → List ℕ
 loaded_text s args depth budget = text_by (room_verdict (length (translation_of s)) 8192) (sides_text (version_of s) (sides_tell s 0 args depth budget (frame_size * max_depth) 8192 (frame_size * max_depth)))
 
 -- Whether a part was read.
-abbrev pub read_verdict : Scan → Verdict
-read_verdict (Past next) = accepted
-read_verdict (Stopped r) = refused r.number r.place
+abbrev pub read_verdict : Result ℕ Refusal → Verdict
+read_verdict (Ok next) = accepted
+read_verdict (Err r) = refused r.reason r.place
 
 -- "Its file limit is 2,048 (15 at 2048)": the head of the file is read by that limit first, then come the file's own checks.
 unfoldable pub file_verdict : List ℕ → Verdict

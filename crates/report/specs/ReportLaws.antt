@@ -1,5 +1,5 @@
 -- The text of `both`, as the code makes it.
-use Rattle.std.specs.Prelude.{ℕ, suc, ◌+◌, ◌-◌, ◌*◌, ◌≤◌, ◌<◌, ◌≡◌, Bool, true, false, List, [], ◌∷◌, ◌++◌, leb, ℤ, length, get_or, take, drop, set}
+use Rattle.std.specs.Prelude.{ℕ, suc, ◌+◌, ◌-◌, ◌*◌, ◌≤◌, ◌<◌, ◌≡◌, Bool, true, false, List, [], ◌∷◌, ◌++◌, leb, ℤ, length, get_or, take, drop, set, Err, Ok, Result}
 use Rattle.std.proofs.Common.{arith, sym, ◌∙◌, subst, length-set, length-drop, take_all, take-suc-set, get_or-take, get_or-drop, length-take-le, le-leb, leb-true, leb-false}
 use Rattle.std.proofs.Math.Path.{refl, ap}
 use Rattle.std.proofs.Math.Seq.{take-length}
@@ -8,14 +8,11 @@ use Rattle.parsing.specs.Bytes.{Bytes}
 use Rattle.parsing.specs.Fields.{version_of, head}
 use Rattle.parsing.specs.BytesAtLaws.{read_head}
 use Rattle.file_head.specs.HeadLaws.{head_alike}
-use Rattle.parsing.specs.declared.Scan.{Scan}
-use Rattle.parsing.specs.declared.Scan.TheVariants.{Past, Stopped}
 use Rattle.parsing.specs.Parser.{Parsed, read, refuse, Verdict, verdict_of, past_of}
 use Rattle.parsing.specs.declared.Refusal.{Refusal}
-use Rattle.parsing.specs.declared.Checked.{Checked}
-use Rattle.parsing.specs.declared.Checked.TheVariants.{Accepted, Refused}
 use Rattle.memory.specs.LayLaws.{length_lay}
 use Rattle.decimal.specs.WroteText.{WroteText}
+use Rattle.parsing.specs.Refusals.{number_of}
 use Rattle.text.specs.Text.{both_text, refused_text, no_header_text}
 use Rattle.runs.specs.Stopped.{stopped_as}
 use Rattle.runs.specs.Tells.{Tells, by_verdict}
@@ -69,47 +66,47 @@ wrote_within {at} {r} {w} {d} {d'} W =
 
 -- ── What an answer of the call prints ───────────────────────────────────────────────────────────
 
-pub meaning_refused : (version : ℕ) (a : Sides) {r : Refusal} → a.verdict ≡ Refused r → refused_text r.number r.place ≡ sides_text version (meaning a)
+pub meaning_refused : (version : ℕ) (a : Sides) {r : Refusal} → a.verdict ≡ Err r → refused_text (number_of r.reason) r.place ≡ sides_text version (meaning a)
 unfolding sides_text
-meaning_refused version a {r} e = ap (λ (v : Checked). sides_text version (by_verdict (verdict_of v) (summary_of a))) (sym e)
+meaning_refused version a {r} e = ap (λ (v : Result (Unit {0}) Refusal). sides_text version (by_verdict (verdict_of v) (summary_of a))) (sym e)
 
-pub meaning_both : (version : ℕ) (a : Sides) → a.verdict ≡ Accepted
+pub meaning_both : (version : ℕ) (a : Sides) → a.verdict ≡ (Ok tt)
     → both_text version a.target (stopped_as a.bench.stopped) a.bench.steps (stopped_as a.controller.stopped) a.controller.steps ≡ sides_text version (meaning a)
 unfolding sides_text
-meaning_both version a e = ap (λ (v : Checked). sides_text version (by_verdict (verdict_of v) (summary_of a))) (sym e)
+meaning_both version a e = ap (λ (v : Result (Unit {0}) Refusal). sides_text version (by_verdict (verdict_of v) (summary_of a))) (sym e)
 
 -- ── A file ──────────────────────────────────────────────────────────────────────────────────────
 
 -- By what a check answered.
-pub checked_text : {c : Checked} {v : Verdict} {r : Refusal} (text : List ℕ) → verdict_of c ≡ v → c ≡ Refused r → refused_text r.number r.place ≡ text_by v text
+pub checked_text : {c : Result (Unit {0}) Refusal} {v : Verdict} {r : Refusal} (text : List ℕ) → verdict_of c ≡ v → c ≡ Err r → refused_text (number_of r.reason) r.place ≡ text_by v text
 checked_text text e q = ap (λ (v : Verdict). text_by v text) (ap verdict_of (sym q) ∙ e)
 
-pub accepted_text : {c : Checked} {v : Verdict} (text : List ℕ) → verdict_of c ≡ v → c ≡ Accepted → text ≡ text_by v text
+pub accepted_text : {c : Result (Unit {0}) Refusal} {v : Verdict} (text : List ℕ) → verdict_of c ≡ v → c ≡ (Ok tt) → text ≡ text_by v text
 accepted_text text e q = ap (λ (v : Verdict). text_by v text) (ap verdict_of (sym q) ∙ e)
 
 module _ (s : List ℕ) (args : List ℤ) (depth budget : ℕ) where
   -- The room for the translation.
-  module _ {n : ℕ} (is : n ≡ length (translation_of s)) {c : Checked} (e : verdict_of c ≡ room_verdict n 8192) where
-    pub room_refused : {r : Refusal} → c ≡ Refused r → refused_text r.number r.place ≡ loaded_text s args depth budget
+  module _ {n : ℕ} (is : n ≡ length (translation_of s)) {c : Result (Unit {0}) Refusal} (e : verdict_of c ≡ room_verdict n 8192) where
+    pub room_refused : {r : Refusal} → c ≡ Err r → refused_text (number_of r.reason) r.place ≡ loaded_text s args depth budget
     unfolding loaded_text
     room_refused q = checked_text _ (e ∙ ap (λ (k : ℕ). room_verdict k 8192) is) q
 
-    pub loaded_sides : c ≡ Accepted → {t : Tells SidesSummary} {v : ℕ} (f r k : ℕ) → v ≡ version_of s → t ≡ sides_tell s 0 args depth budget f r k → f ≡ 12288 → r ≡ 8192 → k ≡ 12288 → sides_text v t ≡ loaded_text s args depth budget
+    pub loaded_sides : c ≡ (Ok tt) → {t : Tells SidesSummary} {v : ℕ} (f r k : ℕ) → v ≡ version_of s → t ≡ sides_tell s 0 args depth budget f r k → f ≡ 12288 → r ≡ 8192 → k ≡ 12288 → sides_text v t ≡ loaded_text s args depth budget
     unfolding loaded_text
     loaded_sides q {t} f r k ev g ef er ek = ap (λ (n : ℕ). sides_text n t) ev ∙ ap (sides_text (version_of s)) (g ∙ cc (ef, er, ek)) ∙ accepted_text _ (e ∙ ap (λ (k : ℕ). room_verdict k 8192) is) q
 
   -- The head by the limit of `both`, then the file's own checks.
-  module _ {x : Scan} (h : x ≡ past_of (head spf 2048 s 0)) where
-    pub head_refused : {r : Refusal} → x ≡ Stopped r → refused_text r.number r.place ≡ file_text s args depth budget
+  module _ {x : Result ℕ Refusal} (h : x ≡ past_of (head spf 2048 s 0)) where
+    pub head_refused : {r : Refusal} → x ≡ Err r → refused_text (number_of r.reason) r.place ≡ file_text s args depth budget
     unfolding file_text file_verdict
     head_refused q = rw (sym h ∙ q) refl
 
-    module _ {next : ℕ} (q : x ≡ Past next) {c : Checked} (e : verdict_of c ≡ check_of s) where
-      pub file_refused : {r : Refusal} → c ≡ Refused r → refused_text r.number r.place ≡ file_text s args depth budget
+    module _ {next : ℕ} (q : x ≡ Ok next) {c : Result (Unit {0}) Refusal} (e : verdict_of c ≡ check_of s) where
+      pub file_refused : {r : Refusal} → c ≡ Err r → refused_text (number_of r.reason) r.place ≡ file_text s args depth budget
       unfolding file_text file_verdict
       file_refused k = rw (sym h ∙ q) (checked_text _ e k)
 
-      pub file_loaded : c ≡ Accepted → loaded_text s args depth budget ≡ file_text s args depth budget
+      pub file_loaded : c ≡ (Ok tt) → loaded_text s args depth budget ≡ file_text s args depth budget
       unfolding file_text file_verdict
       file_loaded k = rw (sym h ∙ q) (accepted_text _ e k)
 
@@ -137,7 +134,7 @@ with_header s h {k} {depth} {budget} {args} ek ea ed eb = rw (le-leb (header_of 
 -- ── What is left unread changes nothing ─────────────────────────────────────────────────────────
 
 -- An input with more than 2,048 bytes behind its header: a refusal of its head is its text.
-long_input : (s : List ℕ) → header_of s + 2048 < length s → {r : Refusal} → head spf 2048 (drop (header_of s) s) 0 ≡ refuse r → refused_text r.number r.place ≡ text_of s
+long_input : (s : List ℕ) → header_of s + 2048 < length s → {r : Refusal} → head spf 2048 (drop (header_of s) s) 0 ≡ refuse r → refused_text (number_of r.reason) r.place ≡ text_of s
 unfolding text_of
 long_input s h e =
     rw (le-leb (header_of s) (length s) (omega arith))

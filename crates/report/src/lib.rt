@@ -3,9 +3,9 @@
 #![tactic(auto)]
 
 ghost use Rattle.std.specs.Prelude.{◌≡◌, ◌+◌, ◌*◌, ◌≤◌, ◌<◌, length, take};
+ghost use Rattle.parsing.specs.Refusals.{number_of};
 ghost use Rattle.text.specs.Text.{refused_text};
 ghost use Rattle.decimal.specs.WroteText.{WroteText};
-ghost use Rattle.procedure_file.specs.Loaded.{Loaded};
 ghost use Rattle.agreement.specs.Sides.{meaning};
 ghost use Rattle.report.specs.Report.{argument_at, arguments_of, sides_text, loaded_text, file_text, text_of};
 
@@ -13,8 +13,9 @@ use agreement::{Sides, sides_loaded};
 use casts::{pair, word};
 use file_head::head_end;
 use memory::{FRAME_SIZE, MAX_DEPTH};
-use parsing::{Checked, Refusal, Scan, version_of};
+use parsing::{Refusal, version_of};
 use procedure_file::check::load;
+use procedure_file::loaded::LoadedFile;
 use text::{write_both, write_no_header, write_refused};
 use translator::{room_checked, translation_size};
 
@@ -32,19 +33,17 @@ fn fill(input: &[u8], n: usize, arguments: &mut [i32])
     requires { (n ≤ length arguments.old) × (4 * n < length input.now) }
     ensures { take n arguments.new ≡ arguments_of input.now n }
 {
-    let mut i = 0;
-    while i < n {
+    for i in 0..n {
         arguments[i] = argument(input, i);
-        i += 1;
     }
 }
 
 // "A refusal prints only `refused`, number, `at`, place."
 fn write_refusal(out: &mut [u8], r: Refusal) -> usize
     requires { 256 ≤ length out.old }
-    ensures { WroteText 0 (refused_text r.number r.place) out.old result out.new }
+    ensures { WroteText 0 (refused_text (number_of r.reason) r.place) out.old result out.new }
 {
-    write_refused(out, r.number as u64, r.place as u64)
+    write_refused(out, u64::from(r.reason.number()), r.place as u64)
 }
 
 // The three lines of both runs on a file of a version, or the refusal.
@@ -54,8 +53,8 @@ fn write_sides(out: &mut [u8], version: u8, a: Sides) -> usize
 {
     let verdict = a.verdict;
     match verdict {
-        Checked::Refused(r) => write_refusal(out, r),
-        Checked::Accepted => {
+        Err(r) => write_refusal(out, r),
+        Ok(()) => {
             let b = a.bench;
             let c = a.controller;
             let bench_stop = b.stopped;
@@ -76,28 +75,22 @@ fn write_sides(out: &mut [u8], version: u8, a: Sides) -> usize
 // A loaded file: translated into 8,192 bytes, and run from main with 48 words lent for each of 256 frames.
 fn write_loaded(
     out: &mut [u8],
-    file: &[u8],
-    starts: &[u16; 2048],
+    file: &LoadedFile,
     arguments: &[i32],
     depth: usize,
     budget: u32,
 ) -> usize
-    requires loaded { Loaded file.now starts.now }
     requires in_bounds { 256 ≤ length out.old }
     ensures { WroteText 0 (loaded_text file.now arguments.now depth budget) out.old result out.new }
 {
-    match room_checked(translation_size(file, starts), 8192) {
-        Checked::Refused(r) => {
-            return write_refusal(out, r);
-        }
-        Checked::Accepted => {}
+    if let Err(r) = room_checked(translation_size(file), 8192) {
+        return write_refusal(out, r);
     }
     let mut room = [0u8; 8192];
     let mut frames = [0i32; FRAME_SIZE * MAX_DEPTH];
     let mut records = [0i32; FRAME_SIZE * MAX_DEPTH];
     let a = sides_loaded(
         file,
-        starts,
         0,
         arguments,
         depth,
@@ -106,7 +99,7 @@ fn write_loaded(
         &mut room,
         &mut records,
     );
-    write_sides(out, version_of(file), a)
+    write_sides(out, version_of(file.bytes()), a)
 }
 
 // A file: its head by the limit of 2,048 bytes, and checked once.
@@ -114,17 +107,15 @@ fn write_file(out: &mut [u8], file: &[u8], arguments: &[i32], depth: usize, budg
     requires { 256 ≤ length out.old }
     ensures { WroteText 0 (file_text file.now arguments.now depth budget) out.old result out.new }
 {
-    match head_end(file, b"SPF", 2048) {
-        Scan::Stopped(r) => {
-            return write_refusal(out, r);
-        }
-        Scan::Past(_) => {}
+    if let Err(r) = head_end(file, b"SPF", 2048) {
+        return write_refusal(out, r);
     }
     let mut starts = [0u16; 2048];
-    match load(file, &mut starts) {
-        Checked::Refused(r) => write_refusal(out, r),
-        Checked::Accepted => write_loaded(out, file, &starts, arguments, depth, budget),
+    if let Err(r) = load(file, &mut starts) {
+        return write_refusal(out, r);
     }
+    let loaded = LoadedFile::new(file, &starts);
+    write_loaded(out, &loaded, arguments, depth, budget)
 }
 
 // The text of `both` for an input, written to the front of `out`; the answer is its length.
@@ -135,7 +126,7 @@ pub fn report(input: &[u8], out: &mut [u8; 256]) -> usize
     if input.len() < 1 {
         return write_no_header(out);
     }
-    let n = input[0] as usize;
+    let n = usize::from(input[0]);
     let header = 4 * n + 7;
     if input.len() < header {
         return write_no_header(out);

@@ -1,9 +1,7 @@
 -- A call that writes w at the front of the output d: its answer and its output, by what was checked.
-use Rattle.std.specs.Prelude.{ℕ, ◌≡◌, refl, List, ◌++◌, length, drop}
+use Rattle.std.specs.Prelude.{ℕ, ◌≡◌, refl, List, ◌++◌, length, drop, Err, Ok, Result}
 use Rattle.std.proofs.Common.{zero-add, sym, ap, ◌∙◌, subst}
 use Rattle.parsing.specs.declared.Refusal.{Refusal}
-use Rattle.parsing.specs.declared.Checked.{Checked}
-use Rattle.parsing.specs.declared.Checked.TheVariants.{Accepted, Refused}
 use Rattle.parsing.specs.Parser.{Verdict, verdict_of, or_else}
 use Rattle.memory.specs.Lay.{lay}
 use Rattle.runs.specs.Tells.{Tells, refuses, tells, by_verdict, leaves}
@@ -18,21 +16,21 @@ pub record Answered (v : Verdict) (w d : List ℕ) (x : Tells ℕ) (d' : List �
   pub answer : x ≡ by_verdict v (length w)
   pub output : d' ≡ leaves v w d
 
-module _ (w d : List ℕ) {c : Checked} {v : Verdict} (e : verdict_of c ≡ v) where
+module _ (w d : List ℕ) {c : Result (Unit {0}) Refusal} {v : Verdict} (e : verdict_of c ≡ v) where
   -- By the last check.
-  pub check_refused : {r : Refusal} → c ≡ Refused r → Answered v w d (refuses r.number r.place) d
+  pub check_refused : {r : Refusal} → c ≡ Err r → Answered v w d (refuses r.reason r.place) d
   check_refused {r} q =
-      subst (λ (k : Verdict). Answered k w d (refuses r.number r.place) d) (ap verdict_of (sym q) ∙ e) (record { answer = refl; output = refl })
+      subst (λ (k : Verdict). Answered k w d (refuses r.reason r.place) d) (ap verdict_of (sym q) ∙ e) (record { answer = refl; output = refl })
 
-  pub check_written : c ≡ Accepted → {n : ℕ} {d' : List ℕ} → n ≡ length w → d' ≡ lay 0 w d → Answered v w d (tells n) d'
+  pub check_written : c ≡ (Ok tt) → {n : ℕ} {d' : List ℕ} → n ≡ length w → d' ≡ lay 0 w d → Answered v w d (tells n) d'
   check_written q {n} {d'} is laid =
       subst (λ (k : Verdict). Answered k w d (tells n) d') (ap verdict_of (sym q) ∙ e) (record { answer = ap tells is; output = laid ∙ lay_front w d })
 
   -- By a check before another verdict u.
   module _ (u : Verdict) where
-    pub answer_refused : {r : Refusal} → c ≡ Refused r → Answered (or_else v u) w d (refuses r.number r.place) d
+    pub answer_refused : {r : Refusal} → c ≡ Err r → Answered (or_else v u) w d (refuses r.reason r.place) d
     answer_refused {r} q =
-        subst (λ (k : Verdict). Answered (or_else k u) w d (refuses r.number r.place) d) (ap verdict_of (sym q) ∙ e) (record { answer = refl; output = refl })
+        subst (λ (k : Verdict). Answered (or_else k u) w d (refuses r.reason r.place) d) (ap verdict_of (sym q) ∙ e) (record { answer = refl; output = refl })
 
-    pub answer_accepted : c ≡ Accepted → {x : Tells ℕ} {d' : List ℕ} → Answered u w d x d' → Answered (or_else v u) w d x d'
+    pub answer_accepted : c ≡ (Ok tt) → {x : Tells ℕ} {d' : List ℕ} → Answered u w d x d' → Answered (or_else v u) w d x d'
     answer_accepted q {x} {d'} A = subst (λ (k : Verdict). Answered (or_else k u) w d x d') (ap verdict_of (sym q) ∙ e) A

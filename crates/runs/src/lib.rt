@@ -21,6 +21,14 @@ pub enum Stopped {
     Deep,
 }
 
+// A run that stopped: how, its steps, and where the machine stands.
+#[derive(Drop)]
+pub struct Ran<R> {
+    pub stopped: Stopped,
+    pub steps: u64,
+    pub regs: R,
+}
+
 // How many of n frames are in use once a run has stopped: none at an end.
 pub fn in_use(stopped: Stopped, n: usize) -> usize
     ensures { result ≡ in_use (stopped_as stopped) n }

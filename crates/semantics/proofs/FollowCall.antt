@@ -135,7 +135,8 @@ module _ (P : Program) (W : WellFormed P) (d : ℕ) (f : FunctionNumber) (x : Va
   calls (suc l) w ws e = (
     control (jump (number P g) (slot_of (variables (function_of P f))) (slot_of (suc (variables (function_of P f)))) (map slot_of ys)) (guarded_slots w.variables (suc (length (records_of P fs)))) (closure (slots_of vs fs) (slot_of x) (body_left P f (suc l) b) (handler_body P f (suc l)) (handler_parameter P f (suc l)) ∷ records_of P fs),
     ap (λ (c : Bool). cond c too_deep (next (control (jump (number P g) (slot_of (variables (function_of P f))) (slot_of (suc (variables (function_of P f)))) (map slot_of ys)) (guarded_slots w.variables (suc (length (records_of P fs)))) (closure (slots_of vs fs) (slot_of x) (body_left P f (suc l) b) (handler_body P f (suc l)) (handler_parameter P f (suc l)) ∷ records_of P fs)))) (counts e),
-    subst (λ (k : ℕ). ControlGoes P d (suc (function_of P g).locals) (control (jump (number P g) (slot_of (variables (function_of P f))) (slot_of (suc (variables (function_of P f)))) (map slot_of ys)) (guarded_slots w.variables (suc (length (records_of P fs)))) (closure (slots_of vs fs) (slot_of x) (body_left P f (suc l) b) (handler_body P f (suc l)) (handler_parameter P f (suc l)) ∷ records_of P fs))
+    subst (λ (k : ℕ). ControlGoes P d (suc (function_of P g).locals) (control (jump (number P g) (slot_of (variables (function_of P f))) (slot_of (suc (variables (function_of P f)))) (map slot_of ys)) (guarded_slots w.variables (suc (length (records_of P fs))))
+        (closure (slots_of vs fs) (slot_of x) (body_left P f (suc l) b) (handler_body P f (suc l)) (handler_parameter P f (suc l)) ∷ records_of P fs))
         (control (body_left P g 0 (function_of P g).entry) (parameters k k (map (value_of vs) ys ++ replicate (function_of P g).locals (pos 0))) (closure (slots_of vs fs) (slot_of x) (body_left P f (suc l) b) (handler_body P f (suc l)) (handler_parameter P f (suc l)) ∷ records_of P fs)))
         (ap suc (length_records P fs))
         (jumps_to P d g (slot_of (variables (function_of P f))) (slot_of (suc (variables (function_of P f)))) ys vs (guarded_slots w.variables (suc (length (records_of P fs)))) (closure (slots_of vs fs) (slot_of x) (body_left P f (suc l) b) (handler_body P f (suc l)) (handler_parameter P f (suc l)) ∷ records_of P fs) (suc (length (records_of P fs))) (suc (length (records_of P fs)))

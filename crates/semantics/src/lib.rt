@@ -1,3 +1,3 @@
-// The rules of bench and controller, the translation, and the theorem that ties them. Definitions and theorems only: they stand in specs/.
+// The rules, the translation and their theorems stand in specs/ and proofs/; there is no code here.
 
 #![tactic(auto)]

@@ -11,9 +11,10 @@ use case_fields::record::{argument_bytes, arguments, room};
 use case_fields::words::{UNTOUCHED, all_are, lent};
 use case_io::input::{read_part, read_whole};
 use case_io::print::{bytes, numbered, refusal, say};
+use case_io::records::run_records;
 use case_io::words::{print_rest, print_stop};
 use casts::{pair, triple, word};
-use parsing::{Checked, version_of};
+use parsing::{Refusal, version_of};
 use std::io;
 use std::io::{Read, Write};
 
@@ -22,12 +23,10 @@ const UNTOUCHED_BYTE: u8 = 7;
 
 // Whether each of these bytes is as it was.
 fn untouched(part: &[u8]) -> bool {
-    let mut i = 0;
-    while i < part.len() {
-        if part[i] != UNTOUCHED_BYTE {
+    for byte in part {
+        if *byte != UNTOUCHED_BYTE {
             return false;
         }
-        i += 1;
     }
     true
 }
@@ -89,14 +88,14 @@ fn print_answer<W: Write>(
 ) -> io::Result<()> {
     let verdict = a.verdict;
     match verdict {
-        Checked::Refused(r) => {
+        Err(r) => {
             refusal(writer, r)?;
             if all_are(frames, UNTOUCHED) && untouched(out) && all_are(records, UNTOUCHED) {
                 say(writer, b" kept")?;
             }
             say(writer, b"\n")
         }
-        Checked::Accepted => {
+        Ok(()) => {
             print_translation(writer, out, a.target)?;
             print_bench(writer, a.bench, version, frames, depth)?;
             print_controller(writer, a.controller, version, records, depth)
@@ -155,12 +154,5 @@ fn run_record<R: Read, W: Write>(reader: &mut R, writer: &mut W) -> io::Result<b
 }
 
 fn main(rt: HostRuntime) -> io::Result<()> {
-    let mut reader = rt.stdin();
-    let mut writer = rt.stdout();
-    for _ in 0..100000 {
-        if !run_record(&mut reader, &mut writer)? {
-            break;
-        }
-    }
-    Ok(())
+    run_records(&mut rt.stdin(), &mut rt.stdout(), 100000, run_record)
 }

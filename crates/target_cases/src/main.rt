@@ -5,6 +5,7 @@
 
 use case_io::input::{read_part, read_whole};
 use case_io::print::{say, verdict};
+use case_io::records::run_records;
 use casts::triple;
 use std::io;
 use std::io::{Read, Write};
@@ -27,12 +28,5 @@ fn run_record<R: Read, W: Write>(reader: &mut R, writer: &mut W) -> io::Result<b
 }
 
 fn main(rt: HostRuntime) -> io::Result<()> {
-    let mut reader = rt.stdin();
-    let mut writer = rt.stdout();
-    for _ in 0..10000 {
-        if !run_record(&mut reader, &mut writer)? {
-            break;
-        }
-    }
-    Ok(())
+    run_records(&mut rt.stdin(), &mut rt.stdout(), 10000, run_record)
 }

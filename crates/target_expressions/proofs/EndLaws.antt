@@ -1,5 +1,7 @@
 -- Laws of the ends of parts, as the functions that read an expression meet them.
-use Rattle.std.specs.Prelude.{ℕ, ◌+◌, ◌≤◌, ◌≡◌, Bool, List, [], ◌∷◌, length}
+use Rattle.target_slots.specs.declared.slots.Kind.{Kind}
+use Rattle.target_tags.specs.NumberSlot.{NumberSlot}
+use Rattle.std.specs.Prelude.{ℕ, ◌+◌, ◌≤◌, ◌≡◌, Bool, List, [], ◌∷◌, length, Err, Ok, Result}
 use Rattle.std.proofs.Math.Path.{refl, ap}
 use Rattle.std.proofs.Common.{sym, ◌∙◌, arith}
 use Rattle.std.proofs.Math.Option.{Option, none, some}
@@ -7,16 +9,10 @@ use denote.Enum.Declared.{tag_of}
 use types.Run.{OneOf, miss}
 use Rattle.semantics.specs.Code.{Expr}
 use Rattle.parsing.specs.declared.Refusal.{Refusal}
-use Rattle.parsing.specs.declared.Scan.{Scan}
-use Rattle.parsing.specs.declared.Scan.TheVariants.{Past, Stopped}
-use Rattle.parsing.specs.declared.Count.TheVariants.{Is, Outside}
-use Rattle.parsing.specs.declared.Checked.{Checked}
-use Rattle.parsing.specs.declared.Checked.TheVariants as checked
 use Rattle.parsing.specs.Parser.{Parsed, read, refuse, and_then, past_of, Verdict, accepted, refused, verdict_of}
 use Rattle.parsing.specs.Fields.{version_of, counted}
 use Rattle.parsing.specs.ParserLaws.{past_read}
 use Rattle.target_tags.specs.contracts.tag.Tag.{the_type}
-use Rattle.target_tags.specs.declared.tag.NumberSlot.{NumberSlot}
 use Rattle.target_tags.specs.declared.tag.Tag.{Tag}
 use Rattle.target_tags.specs.declared.tag.Tag.TheVariants.{Constant, Copy, Difference, Jump, Resume, Handle, Branch, Continuation, ContinuationWithHandler, DifferenceOrRaise, Refused}
 use Rattle.target_tags.specs.Tag.{number_width, tag_at}
@@ -34,15 +30,15 @@ use Rattle.target_expressions.proofs.PartLaws.{impossible, measured_read, nested
 
 -- ── The ends of parts ───────────────────────────────────────────────────────────────────────────
 
-module _ (names : Bool) (ps s : List ℕ) (level : ℕ) (ks : List ℕ) where
+module _ (names : Bool) (ps s : List ℕ) (level : ℕ) (ks : List Kind) where
   -- A nested part.
   module _ (place at n : ℕ) where
-    module _ {c : Checked} (is : verdict_of c ≡ level_verdict s level at) where
-      pub part_refused : (r : Refusal) → c ≡ checked.Refused r → Stopped r ≡ part_end names ps s level ks place at n
+    module _ {c : Result (Unit {0}) Refusal} (is : verdict_of c ≡ level_verdict s level at) where
+      pub part_refused : (r : Refusal) → c ≡ Err r → Err r ≡ part_end names ps s level ks place at n
       unfolding part_end
       part_refused r e = rw (← is, e)
 
-      pub part_in : {part : Scan} → c ≡ checked.Accepted → part ≡ past_of (expression names ps (level + 1) ks s at) → measured_end place at n part ≡ part_end names ps s level ks place at n
+      pub part_in : {part : Result ℕ Refusal} → c ≡ Ok tt → part ≡ past_of (expression names ps (level + 1) ks s at) → measured_end place at n part ≡ part_end names ps s level ks place at n
       unfolding part_end
       part_in e f = rw (← is, e) (ap (measured_end place at n) f ∙ past_measured place at n (expression names ps (level + 1) ks s at))
 
@@ -50,7 +46,7 @@ module _ (names : Bool) (ps s : List ℕ) (level : ℕ) (ks : List ℕ) where
       pub fills : next ≡ at + n
       pub inside : next ≤ length s
 
-    pub part_past : (next : ℕ) → part_end names ps s level ks place at n ≡ Past next → PartPast next
+    pub part_past : (next : ℕ) → part_end names ps s level ks place at n ≡ Ok next → PartPast next
     unfolding part_end
     part_past next e =
         let r = past_read (measured place at n (nested s (inner names ps s) level ks at)) e in
@@ -59,28 +55,28 @@ module _ (names : Bool) (ps s : List ℕ) (level : ℕ) (ks : List ℕ) where
         record { fills = m.fills; inside = expression_inside names ps s (level + 1) ks at d.reads }
 
   -- The nested parts of tag 9: the rest, the length of the handler body, the handler body.
-  module _ (at x t : ℕ) (q : NumberSlot) (n next w : ℕ) (ks₁ ks' : List ℕ) (width : w ≡ number_width (version_of s)) (first : ks₁ ≡ bound ks x 2) (second : ks' ≡ bound ks₁ t 3) where
-    pub rest_stopped : (r : Refusal) → part_end names ps s level ks' (at + 4 + w) next n ≡ Stopped r → Stopped r ≡ continuation_with_handler_end names ps s level ks at x t q n next
+  module _ (at x t : ℕ) (q : NumberSlot) (n next w : ℕ) (ks₁ ks' : List Kind) (width : w ≡ number_width (version_of s)) (first : ks₁ ≡ bound ks x Kind.Continuation) (second : ks' ≡ bound ks₁ t Kind.Handler) where
+    pub rest_stopped : (r : Refusal) → part_end names ps s level ks' (at + 4 + w) next n ≡ Err r → Err r ≡ continuation_with_handler_end names ps s level ks at x t q n next
     unfolding continuation_with_handler_end
     rest_stopped r e = rw (← first, ← second, ← width, e)
 
-    module _ (m : ℕ) (past : part_end names ps s level ks' (at + 4 + w) next n ≡ Past m) where
-      pub handler_outside : (r : Refusal) → counted (pair s m) ≡ Outside r → Stopped r ≡ continuation_with_handler_end names ps s level ks at x t q n next
+    module _ (m : ℕ) (past : part_end names ps s level ks' (at + 4 + w) next n ≡ Ok m) where
+      pub handler_outside : (r : Refusal) → counted (pair s m) ≡ Err r → Err r ≡ continuation_with_handler_end names ps s level ks at x t q n next
       unfolding continuation_with_handler_end handler_end
       handler_outside r e = rw (← first, ← second, ← width, past, pair_outside s m e)
 
-      pub handler_in : (k : ℕ) (ks₂ : List ℕ) {y : Scan} → ks₂ ≡ bound_number ks q → counted (pair s m) ≡ Is k → y ≡ part_end names ps s level ks₂ m (m + 2) k
+      pub handler_in : (k : ℕ) (ks₂ : List Kind) {y : Result ℕ Refusal} → ks₂ ≡ bound_number ks q → counted (pair s m) ≡ Ok k → y ≡ part_end names ps s level ks₂ m (m + 2) k
           → y ≡ continuation_with_handler_end names ps s level ks at x t q n next
       unfolding continuation_with_handler_end handler_end part_end
       handler_in k ks₂ third e f = rw (← first, ← second, ← third, ← width, past, pair_is s m e) f
 
 -- The body of a function.
-module _ (names : Bool) (ps s : List ℕ) (ks : List ℕ) (at : ℕ) where
-  pub body_cut : {r : Refusal} → counted (pair s at) ≡ Outside r → Stopped r ≡ body_end names ps s ks at
+module _ (names : Bool) (ps s : List ℕ) (ks : List Kind) (at : ℕ) where
+  pub body_cut : {r : Refusal} → counted (pair s at) ≡ Err r → Err r ≡ body_end names ps s ks at
   unfolding body_end
   body_cut e = rw (pair_outside s at e)
 
-  pub body_in : (n : ℕ) {part : Scan} → counted (pair s at) ≡ Is n → part ≡ past_of (expression names ps 0 ks s (at + 2))
+  pub body_in : (n : ℕ) {part : Result ℕ Refusal} → counted (pair s at) ≡ Ok n → part ≡ past_of (expression names ps 0 ks s (at + 2))
       → measured_end at (at + 2) n part ≡ body_end names ps s ks at
   unfolding body_end
   body_in n e f = rw (pair_is s at e, f) (past_measured at (at + 2) n (expression names ps 0 ks s (at + 2)))
@@ -95,22 +91,22 @@ onward_at (Ended m) = none
 onward_at (Halted r) = none
 
 -- The end of the expression, where `k` gives it for what follows, by its offset and the kinds of its slots.
-abbrev finish : List ℕ → After → (ℕ → List ℕ → Scan) → Scan
+abbrev finish : List Kind → After → (ℕ → List Kind → Result ℕ Refusal) → Result ℕ Refusal
 finish ks (Onward m) k = k m ks
-finish ks (Bound m x) k = k m (bound ks x 1)
-finish ks (Ended m) k = Past m
-finish ks (Halted r) k = Stopped r
+finish ks (Bound m x) k = k m (bound ks x Kind.Whole)
+finish ks (Ended m) k = Ok m
+finish ks (Halted r) k = Err r
 
 past_before : (t : Expr → Expr) (x : Parsed Expr) → past_of (before t x) ≡ past_of x
 past_before t (read e m) = refl
 past_before t (refuse r) = refl
 
-past_then : (ks : List ℕ) (x : Parsed Expr) (K : Expr → ℕ → Parsed Expr) (a : Expr → ℕ → After) (k : ℕ → List ℕ → Scan)
+past_then : (ks : List Kind) (x : Parsed Expr) (K : Expr → ℕ → Parsed Expr) (a : Expr → ℕ → After) (k : ℕ → List Kind → Result ℕ Refusal)
     → ((e : Expr) (m : ℕ) → past_of (K e m) ≡ finish ks (a e m) k) → past_of (and_then x K) ≡ finish ks (then_after x a) k
 past_then ks (read e m) K a k f = f e m
 past_then ks (refuse r) K a k f = refl
 
-past_after : {A : Type 0} (ks : List ℕ) (c : Verdict) (x : Parsed A) (a : After) (k : ℕ → List ℕ → Scan)
+past_after : {A : Type 0} (ks : List Kind) (c : Verdict) (x : Parsed A) (a : After) (k : ℕ → List Kind → Result ℕ Refusal)
     → past_of x ≡ finish ks a k → past_of (after c x) ≡ finish ks (after_of c a) k
 past_after ks accepted x a k e = e
 past_after ks (refused n p) x a k e = refl
@@ -152,14 +148,14 @@ module _ (names : Bool) (ps s : List ℕ) (level : ℕ) where
       record { here = i.here; forward = omega arith; inside = a.1 }
   node_moves at next (missing r) i w = impossible (cc)
 
-module _ (names : Bool) (ps s : List ℕ) (level : ℕ) (ks : List ℕ) (at : ℕ) where
-  abbrev next_at : ℕ → List ℕ → Scan
+module _ (names : Bool) (ps s : List ℕ) (level : ℕ) (ks : List Kind) (at : ℕ) where
+  abbrev next_at : ℕ → List Kind → Result ℕ Refusal
   next_at m l = past_of (expression names ps level l s m)
 
   behind_past : (m : ℕ) (b : Behind) → past_of (read_behind s (inner names ps s) level ks m b) ≡ finish ks (behind_end names ps s level m b) next_at
   behind_past m (ends e) = refl
   behind_past m (goes_on f) = past_before f (inner names ps s level ks m)
-  behind_past m (goes_on_bound x f) = past_before f (inner names ps s level (bound ks x 1) m)
+  behind_past m (goes_on_bound x f) = past_before f (inner names ps s level (bound ks x Kind.Whole) m)
   behind_past m (part place n kinds f) =
       past_then ks (measured place m n (nested s (inner names ps s) level kinds m)) (λ e i. read_behind s (inner names ps s) level ks i (f e))
       (λ e i. behind_end names ps s level i (f e)) next_at (λ e i. behind_past i (f e))
@@ -183,14 +179,14 @@ module _ (names : Bool) (ps s : List ℕ) (level : ℕ) (ks : List ℕ) (at : �
     pub expression_onward : (next : ℕ) → a ≡ Onward next → past_of (expression names ps level ks s next) ≡ past_of (expression names ps level ks s at)
     expression_onward next e = sym (expression_past e)
 
-    pub expression_bound : (next x : ℕ) (ks' : List ℕ) → a ≡ Bound next x → ks' ≡ bound ks x 1
+    pub expression_bound : (next x : ℕ) (ks' : List Kind) → a ≡ Bound next x → ks' ≡ bound ks x Kind.Whole
         → past_of (expression names ps level ks' s next) ≡ past_of (expression names ps level ks s at)
     expression_bound next x ks' e f = ap (λ l. past_of (expression names ps level l s next)) f ∙ sym (expression_past e)
 
-    pub expression_ended : (next : ℕ) → a ≡ Ended next → Past next ≡ past_of (expression names ps level ks s at)
+    pub expression_ended : (next : ℕ) → a ≡ Ended next → Ok next ≡ past_of (expression names ps level ks s at)
     expression_ended next e = sym (expression_past e)
 
-    pub expression_halted : (r : Refusal) → a ≡ Halted r → Stopped r ≡ past_of (expression names ps level ks s at)
+    pub expression_halted : (r : Refusal) → a ≡ Halted r → Err r ≡ past_of (expression names ps level ks s at)
     expression_halted r e = sym (expression_past e)
 
     -- What goes on behind a node goes on behind its own fields, inside the file.
@@ -215,7 +211,7 @@ both_follow : (t : Tag) (x : Parsed Expr) (y : ℕ → Parsed Expr) (k : Expr �
 both_follow t (read e m) y k f = then_follows t (y m) (k e) (f e)
 both_follow t (refuse r) y k f = refl
 
-module _ (names : Bool) (ps s : List ℕ) (level : ℕ) (ks : List ℕ) (at : ℕ) where
+module _ (names : Bool) (ps s : List ℕ) (level : ℕ) (ks : List Kind) (at : ℕ) where
   node_follows : (t : Tag) → follows_of t (parts_end names ps s level ks at t) ≡ after_node names ps s level (node_of s ks at t)
   unfolding parts_end part_end handler_end continuation_with_handler_end follows_at
   node_follows (Constant x i next) = refl
@@ -227,29 +223,29 @@ module _ (names : Bool) (ps s : List ℕ) (level : ℕ) (ks : List ℕ) (at : �
   node_follows (Branch y z n next) =
       then_follows (Branch y z n next) (measured (at + 3) next n (nested s (inner names ps s) level ks next)) (λ e m. Onward m) (λ e m. refl)
   node_follows (Continuation x p n next) =
-      then_follows (Continuation x p n next) (measured (at + 3) next n (nested s (inner names ps s) level (bound ks x 2) next)) (λ e m. Bound m p) (λ e m. refl)
+      then_follows (Continuation x p n next) (measured (at + 3) next n (nested s (inner names ps s) level (bound ks x Kind.Continuation) next)) (λ e m. Bound m p) (λ e m. refl)
   node_follows (ContinuationWithHandler x p t q n next) =
-      both_follow (ContinuationWithHandler x p t q n next) (measured (at + 4 + number_width (version_of s)) next n (nested s (inner names ps s) level (bound (bound ks x 2) t 3) next))
+      both_follow (ContinuationWithHandler x p t q n next) (measured (at + 4 + number_width (version_of s)) next n (nested s (inner names ps s) level (bound (bound ks x Kind.Continuation) t Kind.Handler) next))
       (λ m. sized (λ s' i. nested s (inner names ps s) level (bound_number ks q) i) s m) (λ e h m. Bound m p) (λ e h m. refl)
   node_follows (DifferenceOrRaise x y z n next) =
       then_follows (DifferenceOrRaise x y z n next) (measured (at + 4) next n (nested s (inner names ps s) level ks next)) (λ e m. Bound m x) (λ e m. refl)
   node_follows (Refused r) = refl
 
   -- The names of a node, then its parts.
-  module _ (t : Tag) {c : Checked} (is : verdict_of c ≡ judged names ps ks s at t) where
-    pub node_right : {a : After} {y : Scan} → c ≡ checked.Accepted → a ≡ follows_of t y → y ≡ parts_end names ps s level ks at t → a ≡ node_end names ps s level ks at t
+  module _ (t : Tag) {c : Result (Unit {0}) Refusal} (is : verdict_of c ≡ judged names ps ks s at t) where
+    pub node_right : {a : After} {y : Result ℕ Refusal} → c ≡ Ok tt → a ≡ follows_of t y → y ≡ parts_end names ps s level ks at t → a ≡ node_end names ps s level ks at t
     unfolding node_end
     node_right e f g = rw (← is, e) (f ∙ ap (follows_of t) g ∙ node_follows t)
 
-    pub node_wrong : (r : Refusal) → c ≡ checked.Refused r → Halted r ≡ node_end names ps s level ks at t
+    pub node_wrong : (r : Refusal) → c ≡ Err r → Halted r ≡ node_end names ps s level ks at t
     unfolding node_end
     node_wrong r e = rw (← is, e)
 
-  module _ {t : Tag} {y : Scan} where
+  module _ {t : Tag} {y : Result ℕ Refusal} where
     pub parts_by_tag : {u : Tag} → t ≡ u → y ≡ parts_end names ps s level ks at u → y ≡ parts_end names ps s level ks at t
     parts_by_tag e f = rw e f
 
-    pub continuation_on : {x p n next : ℕ} (ks' : List ℕ) → t ≡ Continuation x p n next → ks' ≡ bound ks x 2 → y ≡ part_end names ps s level ks' (at + 3) next n → y ≡ parts_end names ps s level ks at t
+    pub continuation_on : {x p n next : ℕ} (ks' : List Kind) → t ≡ Continuation x p n next → ks' ≡ bound ks x Kind.Continuation → y ≡ part_end names ps s level ks' (at + 3) next n → y ≡ parts_end names ps s level ks at t
     unfolding parts_end
     continuation_on ks' e g f = rw (e, ← g) f
 

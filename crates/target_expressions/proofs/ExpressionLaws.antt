@@ -1,4 +1,6 @@
 -- The expression at an offset is what the node there makes of what stands behind it.
+use Rattle.target_slots.specs.declared.slots.Kind.{Kind}
+use Rattle.parsing.specs.declared.reason.Reason.TheVariants.{WrongLength}
 use Prim.Native.Nat.{ℕ, zero, suc, ◌+◌, ◌≤◌, ◌<◌}
 use Rattle.std.proofs.Math.Path.{◌≡◌, refl, sym, ap}
 use Rattle.std.proofs.Common.{◌∙◌, arith}
@@ -31,7 +33,7 @@ module _ (s : List ℕ) (at : ℕ) where
   ending : {next : ℕ} → at < next → next ≤ length s → Fields s at next
   ending h i = record { here = omega arith; forward = h; inside = i }
 
-  pub node_in : (ks : List ℕ) {t : Tag} → View s at t → NodeIn s at (node_of s ks at t)
+  pub node_in : (ks : List Kind) {t : Tag} → View s at t → NodeIn s at (node_of s ks at t)
   node_in ks (is_constant e h) = ending (omega arith) h
   node_in ks (is_copy e h) = ending (omega arith) h
   node_in ks (is_difference e h) = ending (omega arith) h
@@ -52,7 +54,7 @@ pub through : (place at n : ℕ) (K L : Expr → ℕ → Parsed Expr) {x y : Par
     → and_then (measured place at n x) K ≡ and_then (measured place at n y) L
 through place at n K L {x} {y} e f = ap (λ z. and_then (measured place at n z) K) e ∙ go y
   where
-    test : (e : Expr) (t : Bool) → and_then (cond t (read e (at + n)) (refuse (refusal 12 place))) K ≡ and_then (cond t (read e (at + n)) (refuse (refusal 12 place))) L
+    test : (e : Expr) (t : Bool) → and_then (cond t (read e (at + n)) (refuse (refusal WrongLength place))) K ≡ and_then (cond t (read e (at + n)) (refuse (refusal WrongLength place))) L
     test e true = f e
     test e false = refl
 
@@ -63,14 +65,14 @@ through place at n K L {x} {y} e f = ap (λ z. and_then (measured place at n z) 
 module _ (s : List ℕ) where
   -- Two ways to read parts that agree behind an offset.
   Agree : ℕ → Reading → Reading → Type 0
-  Agree at k l = (level : ℕ) (ks : List ℕ) (m : ℕ) → at < m → k level ks m ≡ l level ks m
+  Agree at k l = (level : ℕ) (ks : List Kind) (m : ℕ) → at < m → k level ks m ≡ l level ks m
 
   module _ (at : ℕ) (k l : Reading) (same : Agree at k l) where
-    nested_same : (level : ℕ) (ks : List ℕ) (m : ℕ) → at < m → nested s k level ks m ≡ nested s l level ks m
+    nested_same : (level : ℕ) (ks : List Kind) (m : ℕ) → at < m → nested s k level ks m ≡ nested s l level ks m
     unfolding Agree
     nested_same level ks m h = ap (after (level_verdict s level m)) (same (level + 1) ks m h)
 
-    sized_same : (level : ℕ) (ks : List ℕ) (m : ℕ) (K L : Expr → ℕ → Parsed Expr) → at < m → ((e : Expr) (i : ℕ) → at < i → K e i ≡ L e i)
+    sized_same : (level : ℕ) (ks : List Kind) (m : ℕ) (K L : Expr → ℕ → Parsed Expr) → at < m → ((e : Expr) (i : ℕ) → at < i → K e i ≡ L e i)
         → and_then (sized (λ s' m₁. nested s k level ks m₁) s m) K ≡ and_then (sized (λ s' m₁. nested s l level ks m₁) s m) L
     unfolding pair
     sized_same level ks m K L h f = go (leb (m + 2) (length s))
@@ -81,11 +83,11 @@ module _ (s : List ℕ) where
         go true = through m (m + 2) (pair_at s m) K L (nested_same level ks (m + 2) (omega arith)) (λ e. f e (m + 2 + pair_at s m) (omega arith))
         go false = refl
 
-    behind_same : (level : ℕ) (ks : List ℕ) (m : ℕ) → at < m → (b : Behind) → read_behind s k level ks m b ≡ read_behind s l level ks m b
+    behind_same : (level : ℕ) (ks : List Kind) (m : ℕ) → at < m → (b : Behind) → read_behind s k level ks m b ≡ read_behind s l level ks m b
     unfolding Agree
     behind_same level ks m h (ends e) = refl
     behind_same level ks m h (goes_on f) = ap (before f) (same level ks m h)
-    behind_same level ks m h (goes_on_bound x f) = ap (before f) (same level (bound ks x 1) m h)
+    behind_same level ks m h (goes_on_bound x f) = ap (before f) (same level (bound ks x Kind.Whole) m h)
     behind_same level ks m h (part place n kinds f) =
         through place m n (λ e i. read_behind s k level ks i (f e)) (λ e i. read_behind s l level ks i (f e)) (nested_same level kinds m h)
         (λ e. behind_same level ks (m + n) (omega arith) (f e))
@@ -93,12 +95,12 @@ module _ (s : List ℕ) where
         sized_same level kinds m (λ e i. read_behind s k level ks i (f e)) (λ e i. read_behind s l level ks i (f e)) h
         (λ e i lt. behind_same level ks i lt (f e))
 
-    node_same : (level : ℕ) (ks : List ℕ) (N : Node) → NodeIn s at N → read_node s k level ks N ≡ read_node s l level ks N
+    node_same : (level : ℕ) (ks : List Kind) (N : Node) → NodeIn s at N → read_node s k level ks N ≡ read_node s l level ks N
     node_same level ks (found m b) i = behind_same level ks m i.forward b
     node_same level ks (missing r) i = refl
 
 module _ (names : Bool) (ps s : List ℕ) where
-  past_end : (inner : Reading) (level : ℕ) (ks : List ℕ) (at : ℕ) → length s ≤ at → node names ps s inner level ks at ≡ refuse (cut s)
+  past_end : (inner : Reading) (level : ℕ) (ks : List Kind) (at : ℕ) → length s ≤ at → node names ps s inner level ks at ≡ refuse (cut s)
   unfolding judged names_of
   past_end inner level ks at h =
       ap (λ t. after (judged names ps ks s at t) (read_node s inner level ks (node_of s ks at t))) (sym (tag_past s at h)) ∙ go names
@@ -107,14 +109,14 @@ module _ (names : Bool) (ps s : List ℕ) where
       go true = refl
       go false = refl
 
-  more_fuel : (n : ℕ) (level : ℕ) (ks : List ℕ) (at : ℕ) → length s ≤ n + at → expression_n names ps s n level ks at ≡ expression_n names ps s (suc n) level ks at
+  more_fuel : (n : ℕ) (level : ℕ) (ks : List Kind) (at : ℕ) → length s ≤ n + at → expression_n names ps s n level ks at ≡ expression_n names ps s (suc n) level ks at
   unfolding Agree
   more_fuel zero level ks at h = sym (past_end (expression_n names ps s zero) level ks at (omega arith))
   more_fuel (suc n) level ks at h =
       ap (after (judged names ps ks s at (tag_at s at)))
       (node_same s at (expression_n names ps s n) (expression_n names ps s (suc n)) (λ l k m lt. more_fuel n l k m (omega arith)) level ks (node_of s ks at (tag_at s at)) (node_in s at ks (view s at)))
 
-  pub expression_law : (level : ℕ) (ks : List ℕ) (at : ℕ)
+  pub expression_law : (level : ℕ) (ks : List Kind) (at : ℕ)
       → expression names ps level ks s at ≡ node names ps s (λ l k m. expression names ps l k s m) level ks at
   unfolding expression
   expression_law level ks at = more_fuel (length s) level ks at (omega arith)

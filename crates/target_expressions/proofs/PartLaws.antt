@@ -1,4 +1,6 @@
 -- Parts of an expression that were read: what was read of each, and that it ends inside the file.
+use Rattle.target_slots.specs.declared.slots.Kind.{Kind}
+use Rattle.parsing.specs.declared.reason.Reason.TheVariants.{WrongLength}
 use Prim.Native.Nat.{ℕ, zero, suc, ◌+◌, ◌≤◌, ◌<◌}
 use Rattle.std.specs.Prelude.{◌≡◌, refl, Bool, true, false, cond, List, leb, eqb, length}
 use Rattle.std.proofs.Common.{sym, ap, eqb-true, leb-true}
@@ -43,7 +45,7 @@ pub record Measured (at n : ℕ) (x : Parsed Expr) (e : Expr) (next : ℕ) : Typ
 pub measured_read : (place at n : ℕ) (x : Parsed Expr) {e : Expr} {next : ℕ} → measured place at n x ≡ read e next → Measured at n x e next
 measured_read place at n (read e' m) {e} {next} w = go (eqb m (at + n)) refl w
   where
-    go : (t : Bool) → eqb m (at + n) ≡ t → cond t (read e' (at + n)) (refuse (refusal 12 place)) ≡ read e next → Measured at n (read e' m) e next
+    go : (t : Bool) → eqb m (at + n) ≡ t → cond t (read e' (at + n)) (refuse (refusal WrongLength place)) ≡ read e next → Measured at n (read e' m) e next
     go true q v =
         let r : m ≡ at + n = eqb-true m (at + n) q in
         let f : at + n ≡ next = cc in
@@ -53,12 +55,12 @@ measured_read place at n (read e' m) {e} {next} w = go (eqb m (at + n)) refl w
 measured_read place at n (refuse r) w = impossible (cc)
 
 -- A part one level deeper.
-pub record Nested (s : List ℕ) (k : Reading) (level : ℕ) (ks : List ℕ) (at : ℕ) (e : Expr) (next : ℕ) : Type 0 where
+pub record Nested (s : List ℕ) (k : Reading) (level : ℕ) (ks : List Kind) (at : ℕ) (e : Expr) (next : ℕ) : Type 0 where
   pub inside : at < length s
   pub shallow : level < 16
   pub reads : k (level + 1) ks at ≡ read e next
 
-pub nested_read : (s : List ℕ) (k : Reading) (level : ℕ) (ks : List ℕ) (at : ℕ) {e : Expr} {next : ℕ} → nested s k level ks at ≡ read e next → Nested s k level ks at e next
+pub nested_read : (s : List ℕ) (k : Reading) (level : ℕ) (ks : List Kind) (at : ℕ) {e : Expr} {next : ℕ} → nested s k level ks at ≡ read e next → Nested s k level ks at e next
 nested_read s k level ks at w =
     let a = after_read (level_verdict s level at) (k (level + 1) ks at) w in
     let l = level_read s level at a.right in
@@ -84,9 +86,9 @@ sized_read p s at {e} {next} w = go (leb (at + 2) (length s)) refl w
 -- An expression that was read ends inside the file.
 module _ (names : Bool) (ps s : List ℕ) where
   Inside : Reading → Type 0
-  Inside k = (level : ℕ) (ks : List ℕ) (at : ℕ) (e : Expr) (next : ℕ) → k level ks at ≡ read e next → next ≤ length s
+  Inside k = (level : ℕ) (ks : List Kind) (at : ℕ) (e : Expr) (next : ℕ) → k level ks at ≡ read e next → next ≤ length s
 
-  module _ (k : Reading) (ih : Inside k) (level : ℕ) (ks : List ℕ) where
+  module _ (k : Reading) (ih : Inside k) (level : ℕ) (ks : List Kind) where
     behind_inside : (m : ℕ) → m ≤ length s → (b : Behind) {e : Expr} {next : ℕ} → read_behind s k level ks m b ≡ read e next → next ≤ length s
     unfolding Inside
     behind_inside m h (ends e) {next = next} w = let q : m ≡ next = cc in omega arith
@@ -105,13 +107,13 @@ module _ (names : Bool) (ps s : List ℕ) where
     node_inside at (found m b) i w = behind_inside m i.inside b w
     node_inside at (missing r) i w = impossible (cc)
 
-  inside_fuel : (n level : ℕ) (ks : List ℕ) (at : ℕ) {e : Expr} {next : ℕ} → expression_n names ps s n level ks at ≡ read e next → next ≤ length s
+  inside_fuel : (n level : ℕ) (ks : List Kind) (at : ℕ) {e : Expr} {next : ℕ} → expression_n names ps s n level ks at ≡ read e next → next ≤ length s
   unfolding Inside
   inside_fuel zero level ks at w = impossible (cc)
   inside_fuel (suc n) level ks at w =
       node_inside (expression_n names ps s n) (λ l k m e i. inside_fuel n l k m) level ks at (node_of s ks at (tag_at s at)) (node_in s at ks (view s at))
       (after_read (judged names ps ks s at (tag_at s at)) (read_node s (expression_n names ps s n) level ks (node_of s ks at (tag_at s at))) w).reads
 
-  pub expression_inside : (level : ℕ) (ks : List ℕ) (at : ℕ) {e : Expr} {next : ℕ} → expression names ps level ks s at ≡ read e next → next ≤ length s
+  pub expression_inside : (level : ℕ) (ks : List Kind) (at : ℕ) {e : Expr} {next : ℕ} → expression names ps level ks s at ≡ read e next → next ≤ length s
   unfolding expression
   expression_inside level ks at w = inside_fuel (length s) level ks at w

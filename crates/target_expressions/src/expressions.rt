@@ -6,13 +6,14 @@ ghost use Rattle.target_names.specs.Asked.{NodeAt};
 ghost use Rattle.target_expressions.specs.Expressions.{expression};
 ghost use Rattle.target_expressions.specs.Ends.{node_end, parts_end, continuation_with_handler_end, part_end, body_end};
 
-use parsing::{Checked, Count, Scan};
+use parsing::Refusal;
 use target_names::names;
 use target_parts::parts;
 use target_parts::parts::After;
 use target_slots::slots;
+use target_slots::slots::Kind;
 use target_tags::tag;
-use target_tags::tag::{MAX_SLOTS, NumberSlot, Tag};
+use target_tags::tag::{MAX_SLOTS, Tag};
 
 // The end of an expression: a loop along what follows each node, and calls for its nested parts.
 #[cycle(continuation_with_handler_end_expression_end_node_end_part_end_parts_end)]
@@ -21,9 +22,9 @@ fn expression_end(
     params: &[u8],
     names: bool,
     level: usize,
-    kinds: [u8; MAX_SLOTS],
+    kinds: [Kind; MAX_SLOTS],
     start: usize,
-) -> Scan
+) -> Result<usize, Refusal>
     requires file_len_bound { length file.now ≤ file_limit }
     requires start_in_bounds { start ≤ length file.now }
     ensures { result ≡ past_of (expression names params.now level kinds file.now start) }
@@ -37,15 +38,15 @@ fn expression_end(
                 at = next;
             }
             After::Bound { next, slot } => {
-                let tail = slots::bind(seen, slot, slots::WHOLE_KIND);
+                let tail = slots::bind(seen, slot, Kind::Whole);
                 seen = tail;
                 at = next;
             }
             After::Ended(next) => {
-                return Scan::Past(next);
+                return Ok(next);
             }
             After::Halted(r) => {
-                return Scan::Stopped(r);
+                return Err(r);
             }
         }
     }
@@ -58,7 +59,7 @@ fn node_end(
     params: &[u8],
     names: bool,
     level: usize,
-    kinds: [u8; MAX_SLOTS],
+    kinds: [Kind; MAX_SLOTS],
     at: usize,
     node: Tag,
 ) -> After
@@ -67,11 +68,11 @@ fn node_end(
     ensures { result ≡ node_end names params.now file.now level kinds at node }
 {
     match names::judge(names, file, params, kinds, at, node) {
-        Checked::Accepted => {
+        Ok(()) => {
             let end = parts_end(file, params, names, level, kinds, at, node);
             parts::follows(node, end)
         }
-        Checked::Refused(r) => After::Halted(r),
+        Err(r) => After::Halted(r),
     }
 }
 
@@ -82,10 +83,10 @@ fn parts_end(
     params: &[u8],
     names: bool,
     level: usize,
-    kinds: [u8; MAX_SLOTS],
+    kinds: [Kind; MAX_SLOTS],
     at: usize,
     node: Tag,
-) -> Scan
+) -> Result<usize, Refusal>
     requires file_len_bound { length file.now ≤ file_limit }
     requires node_at { NodeAt file.now at node }
     ensures { result ≡ parts_end names params.now file.now level kinds at node }
@@ -100,7 +101,7 @@ fn parts_end(
             next,
             ..
         } => {
-            let rest = slots::bind(kinds, slot, slots::CONTINUATION_KIND);
+            let rest = slots::bind(kinds, slot, Kind::Continuation);
             part_end(file, params, names, level, rest, next, size, at + 3)
         }
         Tag::ContinuationWithHandler {
@@ -127,14 +128,14 @@ fn continuation_with_handler_end(
     params: &[u8],
     names: bool,
     level: usize,
-    kinds: [u8; MAX_SLOTS],
+    kinds: [Kind; MAX_SLOTS],
     at: usize,
     slot: usize,
     handler: usize,
-    number: NumberSlot,
+    number: Option<usize>,
     size: usize,
     next: usize,
-) -> Scan
+) -> Result<usize, Refusal>
     requires file_len_bound { length file.now ≤ file_limit }
     requires at_lt_next { at < next }
     requires next_in_bounds { next ≤ length file.now }
@@ -142,19 +143,15 @@ fn continuation_with_handler_end(
 {
     let caught = slots::bind_number(kinds, number);
     let rest = slots::bind(
-        slots::bind(kinds, slot, slots::CONTINUATION_KIND),
+        slots::bind(kinds, slot, Kind::Continuation),
         handler,
-        slots::HANDLER_KIND,
+        Kind::Handler,
     );
     let last = at + 4;
     let place = last + tag::number_width(file);
-    match part_end(file, params, names, level, rest, next, size, place) {
-        Scan::Stopped(r) => Scan::Stopped(r),
-        Scan::Past(middle) => match parts::size_at(file, middle) {
-            Count::Outside(r) => Scan::Stopped(r),
-            Count::Is(n) => part_end(file, params, names, level, caught, middle + 2, n, middle),
-        },
-    }
+    let middle = part_end(file, params, names, level, rest, next, size, place)?;
+    let n = parts::size_at(file, middle)?;
+    part_end(file, params, names, level, caught, middle + 2, n, middle)
 }
 
 // A nested part, one level deeper.
@@ -164,34 +161,32 @@ fn part_end(
     params: &[u8],
     names: bool,
     level: usize,
-    kinds: [u8; MAX_SLOTS],
+    kinds: [Kind; MAX_SLOTS],
     at: usize,
     size: usize,
     place: usize,
-) -> Scan
+) -> Result<usize, Refusal>
     requires { length file.now ≤ file_limit }
     ensures { result ≡ part_end names params.now file.now level kinds place at size }
 {
-    match parts::level_checked(file, level, at) {
-        Checked::Refused(r) => Scan::Stopped(r),
-        Checked::Accepted => {
-            let part = expression_end(file, params, names, level + 1, kinds, at);
-            parts::measured_end(part, at, size, place)
-        }
-    }
+    parts::level_checked(file, level, at)?;
+    let part = expression_end(file, params, names, level + 1, kinds, at);
+    parts::measured_end(part, at, size, place)
 }
 
 // The body of a function behind its length.
-pub fn body_end(file: &[u8], params: &[u8], names: bool, kinds: [u8; MAX_SLOTS], at: usize) -> Scan
+pub fn body_end(
+    file: &[u8],
+    params: &[u8],
+    names: bool,
+    kinds: [Kind; MAX_SLOTS],
+    at: usize,
+) -> Result<usize, Refusal>
     requires { length file.now ≤ file_limit }
     ensures { result ≡ body_end names params.now file.now kinds at }
 {
-    match parts::size_at(file, at) {
-        Count::Outside(r) => Scan::Stopped(r),
-        Count::Is(size) => {
-            let start = at + 2;
-            let body = expression_end(file, params, names, 0, kinds, start);
-            parts::measured_end(body, start, size, at)
-        }
-    }
+    let size = parts::size_at(file, at)?;
+    let start = at + 2;
+    let body = expression_end(file, params, names, 0, kinds, start);
+    parts::measured_end(body, start, size, at)
 }

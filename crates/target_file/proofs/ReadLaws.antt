@@ -1,4 +1,6 @@
 -- An expression that was read stands there, nests as deep as is allowed, and has right names where they were judged.
+use Rattle.target_slots.specs.declared.slots.Kind.{Kind}
+use Rattle.target_tags.specs.NumberSlot.{NumberSlot}
 use Prim.Native.Nat.{ℕ, zero, suc, ◌+◌, ◌≤◌, ◌<◌}
 use Rattle.std.specs.Prelude.{◌≡◌, Bool, true, List, drop}
 use Rattle.std.proofs.Math.Path.{refl, sym, ap, ap₂, subst}
@@ -10,7 +12,6 @@ use Rattle.parsing.specs.Parser.{read, accepted, or_else}
 use Rattle.parsing.specs.VerdictLaws.{or_accepted}
 use Rattle.parsing.specs.ParserLaws.{sequence}
 use Rattle.parsing.specs.Fields.{version_of}
-use Rattle.target_tags.specs.declared.tag.NumberSlot.{NumberSlot}
 use Rattle.target_tags.specs.declared.tag.Tag.{Tag}
 use Rattle.target_tags.specs.declared.tag.Tag.TheVariants.{Handle, Branch, Continuation, ContinuationWithHandler, DifferenceOrRaise}
 use Rattle.target_tags.specs.Tag.{slots_in, number_width, number_slot_at, slot_in, number_slot, pair_at, tag_at}
@@ -35,36 +36,36 @@ module _ (names : Bool) (ps s : List ℕ) (Q : Code) (named : names ≡ true →
   abbrev slots : ℕ
   slots = slots_in (version_of s)
 
-  pub record Found (level : ℕ) (ks : List ℕ) (at : ℕ) (e : Expr) (next : ℕ) : Type 0 where
+  pub record Found (level : ℕ) (ks : List Kind) (at : ℕ) (e : Expr) (next : ℕ) : Type 0 where
     pub here : ExprAt s at e
     pub past : next ≡ at + size e
     pub nests : Nests level e
     pub right : names ≡ true → (KS : Kinds) → Like slots KS ks → KeepsRules Q slots KS e
 
   Finds : Reading → Type 0
-  Finds k = (level : ℕ) (ks : List ℕ) (at : ℕ) (e : Expr) (next : ℕ) → k level ks at ≡ read e next → Found level ks at e next
+  Finds k = (level : ℕ) (ks : List Kind) (at : ℕ) (e : Expr) (next : ℕ) → k level ks at ≡ read e next → Found level ks at e next
 
   -- A nested part that fills its length.
-  record FoundPart (level : ℕ) (ks : List ℕ) (at n : ℕ) (e : Expr) : Type 0 where
+  record FoundPart (level : ℕ) (ks : List Kind) (at n : ℕ) (e : Expr) : Type 0 where
     shallow : level < 16
     stands : Found (level + 1) ks at e (at + size e)
     fills : n ≡ size e
 
   -- What was found behind a node's own fields, and makes the expression e.
-  abbrev FoundBehind : ℕ → List ℕ → ℕ → Behind → Expr → ℕ → Type 0
+  abbrev FoundBehind : ℕ → List Kind → ℕ → Behind → Expr → ℕ → Type 0
   FoundBehind level ks m (ends r) e next = (r ≡ e) × (m ≡ next)
   FoundBehind level ks m (goes_on f) e next = (r : Expr) × Found level ks m r next × (f r ≡ e)
-  FoundBehind level ks m (goes_on_bound x f) e next = (r : Expr) × Found level (bound ks x 1) m r next × (f r ≡ e)
+  FoundBehind level ks m (goes_on_bound x f) e next = (r : Expr) × Found level (bound ks x Kind.Whole) m r next × (f r ≡ e)
   FoundBehind level ks m (part place n kinds f) e next = (p : Expr) × FoundPart level kinds m n p × FoundBehind level ks (m + size p) (f p) e next
   FoundBehind level ks m (sized_part kinds f) e next =
       (p : Expr) × FoundPart level kinds (m + 2) (pair_at s m) p × FoundBehind level ks (m + 2 + size p) (f p) e next
 
-  abbrev FoundNode : ℕ → List ℕ → Node → Expr → ℕ → Type 0
+  abbrev FoundNode : ℕ → List Kind → Node → Expr → ℕ → Type 0
   FoundNode level ks (found m b) e next = FoundBehind level ks m b e next
   FoundNode level ks (missing r) e next = ⊥
 
-  module _ (k : Reading) (ih : Finds k) (level : ℕ) (ks : List ℕ) where
-    part_found : (kinds : List ℕ) (at n : ℕ) (p : Expr) (m : ℕ) → nested s k level kinds at ≡ read p m → m ≡ at + n → FoundPart level kinds at n p
+  module _ (k : Reading) (ih : Finds k) (level : ℕ) (ks : List Kind) where
+    part_found : (kinds : List Kind) (at n : ℕ) (p : Expr) (m : ℕ) → nested s k level kinds at ≡ read p m → m ≡ at + n → FoundPart level kinds at n p
     unfolding Finds
     part_found kinds at n p m w q =
         let d = nested_read s k level kinds at w in
@@ -76,7 +77,7 @@ module _ (names : Bool) (ps s : List ℕ) (Q : Code) (named : names ≡ true →
     behind_found m (ends r) w = (cc, cc)
     behind_found m (goes_on f) {e} {next} w = let b = before_read f (k level ks m) w in (b.rest, ih level ks m b.rest next b.reads, b.is)
     behind_found m (goes_on_bound x f) {e} {next} w =
-        let b = before_read f (k level (bound ks x 1) m) w in (b.rest, ih level (bound ks x 1) m b.rest next b.reads, b.is)
+        let b = before_read f (k level (bound ks x Kind.Whole) m) w in (b.rest, ih level (bound ks x Kind.Whole) m b.rest next b.reads, b.is)
     behind_found m (part place n kinds f) {e} {next} w =
         let b = sequence (measured place m n (nested s k level kinds m)) (λ r i. read_behind s k level ks i (f r)) w in
         let a = measured_read place m n (nested s k level kinds m) b.reads in
@@ -94,7 +95,7 @@ module _ (names : Bool) (ps s : List ℕ) (Q : Code) (named : names ≡ true →
     node_found (found m b) w = behind_found m b w
     node_found (missing r) w = impossible (cc)
 
-  module _ (level : ℕ) (ks : List ℕ) (at : ℕ) {e : Expr} {next : ℕ} where
+  module _ (level : ℕ) (ks : List Kind) (at : ℕ) {e : Expr} {next : ℕ} where
     by_equal : {r : Expr} → r ≡ e → Found level ks at r next → Found level ks at e next
     by_equal q f = subst (λ r. Found level ks at r next) q f
 
@@ -118,7 +119,7 @@ module _ (names : Bool) (ps s : List ℕ) (Q : Code) (named : names ≡ true →
           past = omega (arith, F.past);
           nests = F.nests;
           right = λ q KS l.
-              let a = or_accepted (binds slots (at + 1) x) (reads slots ks 1 (at + 2) y) (right q) in
+              let a = or_accepted (binds slots (at + 1) x) (reads slots ks Kind.Whole (at + 2) y) (right q) in
               let b = binds_right (at + 1) x a.0 in
               (b, reads_right l whole_kind (at + 2) y a.1, F.right q (bind_kind KS x whole_kind) (like_bind x whole_kind b l));
         })
@@ -148,9 +149,9 @@ module _ (names : Bool) (ps s : List ℕ) (Q : Code) (named : names ≡ true →
           nests = tt;
           right = λ q KS l.
               let w = or_accepted (jump_names slots ps ks at g c d n) (values slots ks s (at + 6) n) (right q) in
-              let v = or_accepted (or_else (function ps (at + 1) g) (or_else (reads slots ks 2 (at + 3) c) (reads slots ks 3 (at + 4) d))) (arity ps (at + 5) g n) w.0 in
-              let a = or_accepted (function ps (at + 1) g) (or_else (reads slots ks 2 (at + 3) c) (reads slots ks 3 (at + 4) d)) v.0 in
-              let u = or_accepted (reads slots ks 2 (at + 3) c) (reads slots ks 3 (at + 4) d) a.1 in
+              let v = or_accepted (or_else (function ps (at + 1) g) (or_else (reads slots ks Kind.Continuation (at + 3) c) (reads slots ks Kind.Handler (at + 4) d))) (arity ps (at + 5) g n) w.0 in
+              let a = or_accepted (function ps (at + 1) g) (or_else (reads slots ks Kind.Continuation (at + 3) c) (reads slots ks Kind.Handler (at + 4) d)) v.0 in
+              let u = or_accepted (reads slots ks Kind.Continuation (at + 3) c) (reads slots ks Kind.Handler (at + 4) d) a.1 in
               (function_right Q (named q) (at + 1) g a.0, reads_right l continuation_kind (at + 3) c u.0, reads_right l handler_kind (at + 4) d u.1, few ∙ arity_right Q (named q) (at + 5) g n v.1, values_right l s n (at + 6) h w.1);
         })
     from_found (is_resume f h) is right (o, m) =
@@ -161,7 +162,7 @@ module _ (names : Bool) (ps s : List ℕ) (Q : Code) (named : names ≡ true →
           here = sym is;
           past = sym m;
           nests = tt;
-          right = λ q KS l. let a = or_accepted (reads slots ks 2 (at + 1) c) (reads slots ks 1 (at + 2) y) (right q) in (reads_right l continuation_kind (at + 1) c a.0, reads_right l whole_kind (at + 2) y a.1);
+          right = λ q KS l. let a = or_accepted (reads slots ks Kind.Continuation (at + 1) c) (reads slots ks Kind.Whole (at + 2) y) (right q) in (reads_right l continuation_kind (at + 1) c a.0, reads_right l whole_kind (at + 2) y a.1);
         })
     from_found (is_handle f h) is right (o, m) =
         let c = get_or s (at + 1) 0 in
@@ -173,7 +174,7 @@ module _ (names : Bool) (ps s : List ℕ) (Q : Code) (named : names ≡ true →
           past = omega (arith, m, w);
           nests = tt;
           right = λ q KS l.
-              let a = or_accepted (reads slots ks 3 (at + 1) c) (reads_number slots ks (at + 2) y) (right q) in
+              let a = or_accepted (reads slots ks Kind.Handler (at + 1) c) (reads_number slots ks (at + 2) y) (right q) in
               (reads_right l handler_kind (at + 1) c a.0, reads_number_right l (at + 2) y a.1);
         })
     from_found (is_branch f h) is right (r, P, (k, F, o)) =
@@ -185,7 +186,7 @@ module _ (names : Bool) (ps s : List ℕ) (Q : Code) (named : names ≡ true →
           past = omega (arith, F.past);
           nests = (P.shallow, P.stands.nests, F.nests);
           right = λ q KS l.
-              let a = or_accepted (reads slots ks 1 (at + 1) y) (reads slots ks 1 (at + 2) z) (right q) in
+              let a = or_accepted (reads slots ks Kind.Whole (at + 1) y) (reads slots ks Kind.Whole (at + 2) z) (right q) in
               (reads_right l whole_kind (at + 1) y a.0, reads_right l whole_kind (at + 2) z a.1, P.stands.right q KS l, F.right q KS l);
         })
     from_found (is_continuation f h) is right (r, P, (k, F, o)) =
@@ -257,11 +258,11 @@ module _ (names : Bool) (ps s : List ℕ) (Q : Code) (named : names ≡ true →
         })
     from_found (is_refused r) is right w = absurd w
 
-  judged_right : (ks : List ℕ) (at : ℕ) (t : Tag) → judged names ps ks s at t ≡ accepted → names ≡ true → names_of slots ps ks s at t ≡ accepted
+  judged_right : (ks : List Kind) (at : ℕ) (t : Tag) → judged names ps ks s at t ≡ accepted → names ≡ true → names_of slots ps ks s at t ≡ accepted
   unfolding judged
   judged_right ks at t e q = sym (ap (λ b. cond b (names_of slots ps ks s at t) accepted) q) ∙ e
 
-  found_fuel : (n level : ℕ) (ks : List ℕ) (at : ℕ) (e : Expr) (next : ℕ) → expression_n names ps s n level ks at ≡ read e next → Found level ks at e next
+  found_fuel : (n level : ℕ) (ks : List Kind) (at : ℕ) (e : Expr) (next : ℕ) → expression_n names ps s n level ks at ≡ read e next → Found level ks at e next
   unfolding Finds
   found_fuel zero level ks at e next w = impossible (cc)
   found_fuel (suc n) level ks at e next w =
@@ -269,6 +270,6 @@ module _ (names : Bool) (ps s : List ℕ) (Q : Code) (named : names ≡ true →
       from_found level ks at (view s at) refl (judged_right ks at (tag_at s at) r.right)
       (node_found (expression_n names ps s n) (found_fuel n) level ks (node_of s ks at (tag_at s at)) r.reads)
 
-  pub expression_found : (level : ℕ) (ks : List ℕ) (at : ℕ) {e : Expr} {next : ℕ} → expression names ps level ks s at ≡ read e next → Found level ks at e next
+  pub expression_found : (level : ℕ) (ks : List Kind) (at : ℕ) {e : Expr} {next : ℕ} → expression names ps level ks s at ≡ read e next → Found level ks at e next
   unfolding expression
   expression_found level ks at {e} {next} w = found_fuel (length s) level ks at e next w

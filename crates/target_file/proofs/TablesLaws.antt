@@ -1,5 +1,5 @@
 -- Laws of the tables, as the loop that fills them meets them.
-use Rattle.std.specs.Prelude.{ℕ, suc, ◌+◌, ◌-◌, ◌≤◌, ◌<◌, ◌≡◌, refl, false, List, [], ◌∷◌, ◌++◌, length, get_or, take, drop, set, replicate}
+use Rattle.std.specs.Prelude.{ℕ, suc, ◌+◌, ◌-◌, ◌≤◌, ◌<◌, ◌≡◌, refl, false, List, [], ◌∷◌, ◌++◌, length, get_or, take, drop, set, replicate, Ok}
 use Rattle.std.proofs.Math.Path.{sym}
 use Rattle.std.proofs.Common.{ap, ap₂, ◌∙◌, subst, arith, add-one, take-append-drop, length-set, take-suc, take-suc-set, drop-drop, drop-set-lt, get_or-drop, take_all}
 use Rattle.std.proofs.lemmas.List.{length-map, length-replicate}
@@ -8,7 +8,6 @@ use Rattle.std.proofs.Math.Seq.{drop-cons}
 use Rattle.semantics.specs.Code.{Target, Code}
 use Rattle.semantics.specs.Controller.{no_target}
 use Rattle.parsing.specs.Parser.{read, past_of}
-use Rattle.parsing.specs.declared.Scan.TheVariants.{Past}
 use Rattle.parsing.specs.ParserLaws.{past_read}
 use Rattle.target_tags.specs.Tag.{pair_at}
 use Rattle.target_layout.specs.Layout.{code}
@@ -126,7 +125,7 @@ turn_done {s} laid {n} {i} {at} {starts} {params} e turn h =
     }
 
 -- The layout of a file that was read to its end.
-pub laid_out : (s : List ℕ) (next : ℕ) → past_of (code false [] s 0) ≡ Past next → LaidOut s
+pub laid_out : (s : List ℕ) (next : ℕ) → past_of (code false [] s 0) ≡ Ok next → LaidOut s
 unfolding code_of
 laid_out s next e =
     let r = past_read (code false [] s 0) e in

@@ -7,7 +7,7 @@ use Rattle.target_layout.specs.Layout.{targets, code}
 
 abbrev pub verdict : {A : Type 0} → Parsed A → Verdict
 verdict (read a next) = accepted
-verdict (refuse r) = refused r.number r.place
+verdict (refuse r) = refused r.reason r.place
 
 -- The functions' numbers of parameters.
 abbrev pub arities : Code → List ℕ
@@ -15,7 +15,7 @@ arities Q = map (λ D. D.params) Q
 
 -- Names are judged once the layout is whole, by a second reading.
 abbrev pub named : (Bool → List ℕ → Parser Code) → List ℕ → Parsed Code → Verdict
-named reading s (refuse r) = refused r.number r.place
+named reading s (refuse r) = refused r.reason r.place
 named reading s (read Q next) = verdict (reading true (arities Q) s 0)
 
 -- The layout of the whole file, its head first, and then its names.

@@ -25,7 +25,7 @@ table_of s = starts_from 7 (code_of s) ++ replicate (max_functions - length (cod
 -- The table after a file was loaded: a refused file leaves what it held.
 abbrev pub table_by : Verdict → List ℕ → List ℕ → List ℕ
 table_by accepted s held = table_of s
-table_by (refused number place) s held = held
+table_by (refused reason place) s held = held
 
 -- What the walk over the functions gives: the table, and their numbers of parameters.
 pub record Tabled (s starts params : List ℕ) : Type 0 where

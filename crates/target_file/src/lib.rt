@@ -3,5 +3,6 @@
 #![tactic(auto)]
 
 pub mod check;
+pub mod loaded;
 pub mod table;
 mod walk;

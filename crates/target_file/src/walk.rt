@@ -17,14 +17,12 @@ pub fn tables_of(file: &[u8]) -> Tables
     let mut starts = [0u16; 2048];
     let mut params = [0u8; 2048];
     let mut at = 7;
-    let mut i = 0;
-    while i < n {
+    for i in 0..n {
         let body = at + 3;
         params[i] = file[at];
         starts[i] = body as u16;
         let field = at + 1;
         at = body + pair(file[field], file[field + 1]);
-        i += 1;
     }
     Tables { starts, params }
 }

@@ -2,7 +2,7 @@
 -- finds the refusals 1 to 6, 12 and 15; a second one judges names too, and finds 9, 10, 11, 13 and 19 to 21.
 use Rattle.std.specs.Prelude.{ℕ, Bool, cond, List, [], ◌∷◌, leb}
 use Rattle.semantics.specs.Code.{Target, Code}
-use Rattle.parsing.specs.Refusals.{out_of_range}
+use Rattle.parsing.specs.declared.reason.Reason.TheVariants.{OutOfRange}
 use Rattle.parsing.specs.Parser.{refusal, read, refuse, Parser, give, and_then, ◌>>=◌, many}
 use Rattle.parsing.specs.Fields.{version_of, head, count, ended}
 use Rattle.target_tags.specs.Tag.{file_limit, max_parameters}
@@ -29,7 +29,7 @@ function names ps = do
 unfoldable pub functions : Parser ℕ
 functions s at =
     and_then (pair s at)
-    (λ n m. cond (leb 1 n) (cond (leb n max_functions) (read n m) (refuse (refusal out_of_range at))) (refuse (refusal out_of_range at)))
+    (λ n m. cond (leb 1 n) (cond (leb n max_functions) (read n m) (refuse (refusal OutOfRange at))) (refuse (refusal OutOfRange at)))
 
 -- Behind the head: "function count", the functions, and no bytes left over.
 unfoldable pub targets : Bool → List ℕ → Parser Code

@@ -2,41 +2,38 @@
 ghost use Rattle.std.specs.Prelude.{◌≡◌, List, length, get_or, ℕ, ◌+◌, ◌≤◌};
 ghost use Rattle.parsing.specs.Parser.{or_else, verdict_of};
 ghost use Rattle.target_tags.specs.Tag.{file_limit};
-ghost use Rattle.target_slots.specs.Slots.{whole_kind, continuation_kind, binds, reads};
+ghost use Rattle.target_slots.specs.Slots.{binds, reads};
 ghost use Rattle.target_names.specs.Asked.{NodeAt, NoJump};
 ghost use Rattle.target_names.specs.Names.{function, arity, values, reads_number, binds_number, difference_names, jump_names, handle_names, continuation_with_handler_names, names_of, judged};
 
-use casts::byte_number;
-use parsing::{Checked, or_else, refusals, refused_unless};
-use target_slots::slots::{
-    CONTINUATION_KIND, HANDLER_KIND, WHOLE_KIND, binds_slot, differs, reads_slot,
-};
+use parsing::{Reason, Refusal, or_else, refused_unless};
+use target_slots::slots::{Kind, binds_slot, differs, reads_slot};
 use target_tags::tag;
-use target_tags::tag::{MAX_SLOTS, NumberSlot, Tag};
+use target_tags::tag::{MAX_SLOTS, Tag};
 
 // The function of a jump, among functions with these numbers of parameters.
-fn names_function(params: &[u8], number: usize, place: usize) -> Checked
+fn names_function(params: &[u8], number: usize, place: usize) -> Result<(), Refusal>
     ensures { verdict_of result ≡ function params.now place number }
 {
-    refused_unless(number < params.len(), refusals::MISSING_FUNCTION, place)
+    refused_unless(number < params.len(), Reason::MissingFunction, place)
 }
 
 fn params_of(params: &[u8], number: usize) -> usize
     ensures { result ≡ get_or params.now number 0 }
 {
     if number < params.len() {
-        return byte_number(params[number]);
+        return usize::from(params[number]);
     }
     0
 }
 
 // The count of a jump's values.
-fn counts(params: &[u8], number: usize, count: usize, place: usize) -> Checked
+fn counts(params: &[u8], number: usize, count: usize, place: usize) -> Result<(), Refusal>
     ensures { verdict_of result ≡ arity params.now place number count }
 {
     refused_unless(
         count == params_of(params, number),
-        refusals::CALLEE_ARITY,
+        Reason::CalleeArity,
         place,
     )
 }
@@ -45,55 +42,52 @@ fn counts(params: &[u8], number: usize, count: usize, place: usize) -> Checked
 fn reads_values(
     file: &[u8],
     slots: usize,
-    kinds: [u8; MAX_SLOTS],
+    kinds: [Kind; MAX_SLOTS],
     start: usize,
     count: usize,
-) -> Checked
+) -> Result<(), Refusal>
     requires { start + count ≤ length file.now }
     ensures { verdict_of result ≡ values slots kinds file.now start count }
 {
-    let mut at = start;
-    let mut left = count;
-    while 0 < left {
-        left -= 1;
-        match reads_slot(slots, kinds, WHOLE_KIND, byte_number(file[at]), at) {
-            Checked::Refused(r) => {
-                return Checked::Refused(r);
-            }
-            Checked::Accepted => {
-                at += 1;
-            }
-        }
+    for i in 0..count {
+        let at = start + i;
+        reads_slot(slots, kinds, Kind::Whole, usize::from(file[at]), at)?;
     }
-    Checked::Accepted
+    Ok(())
 }
 
 // The names of tag 2.
-fn names_copy(slots: usize, kinds: [u8; MAX_SLOTS], at: usize, slot: usize, from: usize) -> Checked
+fn names_copy(
+    slots: usize,
+    kinds: [Kind; MAX_SLOTS],
+    at: usize,
+    slot: usize,
+    from: usize,
+) -> Result<(), Refusal>
     requires { at ≤ file_limit }
-    ensures { verdict_of result ≡ or_else (binds slots (at + 1) slot) (reads slots kinds whole_kind (at + 2) from) }
+    ensures { verdict_of result ≡ or_else (binds slots (at + 1) slot) (reads slots kinds Kind.Whole (at + 2) from) }
 {
     or_else(
         binds_slot(slots, slot, at + 1),
-        reads_slot(slots, kinds, WHOLE_KIND, from, at + 2),
+        reads_slot(slots, kinds, Kind::Whole, from, at + 2),
     )
 }
 
 // The names of tags 3 and 10, in reading order.
 fn names_difference(
     slots: usize,
-    kinds: [u8; MAX_SLOTS],
+    kinds: [Kind; MAX_SLOTS],
     at: usize,
     slot: usize,
     left: usize,
     right: usize,
-) -> Checked
+) -> Result<(), Refusal>
     requires { at ≤ file_limit }
     ensures { verdict_of result ≡ difference_names slots kinds at slot left right }
 {
     let read = or_else(
-        reads_slot(slots, kinds, WHOLE_KIND, left, at + 2),
-        reads_slot(slots, kinds, WHOLE_KIND, right, at + 3),
+        reads_slot(slots, kinds, Kind::Whole, left, at + 2),
+        reads_slot(slots, kinds, Kind::Whole, right, at + 3),
     );
     or_else(binds_slot(slots, slot, at + 1), read)
 }
@@ -102,20 +96,20 @@ fn names_difference(
 fn names_jump(
     params: &[u8],
     slots: usize,
-    kinds: [u8; MAX_SLOTS],
+    kinds: [Kind; MAX_SLOTS],
     at: usize,
     number: usize,
     continuation: usize,
     handler: usize,
     count: usize,
-) -> Checked
+) -> Result<(), Refusal>
     requires { at ≤ file_limit }
     ensures { verdict_of result ≡ jump_names slots params.now kinds at number continuation handler count }
 {
     let goal = names_function(params, number, at + 1);
     let ends = or_else(
-        reads_slot(slots, kinds, CONTINUATION_KIND, continuation, at + 3),
-        reads_slot(slots, kinds, HANDLER_KIND, handler, at + 4),
+        reads_slot(slots, kinds, Kind::Continuation, continuation, at + 3),
+        reads_slot(slots, kinds, Kind::Handler, handler, at + 4),
     );
     or_else(or_else(goal, ends), counts(params, number, count, at + 5))
 }
@@ -123,43 +117,48 @@ fn names_jump(
 // The names of tag 5.
 fn names_resume(
     slots: usize,
-    kinds: [u8; MAX_SLOTS],
+    kinds: [Kind; MAX_SLOTS],
     at: usize,
     continuation: usize,
     value: usize,
-) -> Checked
+) -> Result<(), Refusal>
     requires { at ≤ file_limit }
-    ensures { verdict_of result ≡ or_else (reads slots kinds continuation_kind (at + 1) continuation) (reads slots kinds whole_kind (at + 2) value) }
+    ensures { verdict_of result ≡ or_else (reads slots kinds Kind.Continuation (at + 1) continuation) (reads slots kinds Kind.Whole (at + 2) value) }
 {
     or_else(
-        reads_slot(slots, kinds, CONTINUATION_KIND, continuation, at + 1),
-        reads_slot(slots, kinds, WHOLE_KIND, value, at + 2),
+        reads_slot(slots, kinds, Kind::Continuation, continuation, at + 1),
+        reads_slot(slots, kinds, Kind::Whole, value, at + 2),
     )
 }
 
 // The value slot of tag 6, if there is one.
-fn reads_number(slots: usize, kinds: [u8; MAX_SLOTS], number: NumberSlot, place: usize) -> Checked
+fn reads_number(
+    slots: usize,
+    kinds: [Kind; MAX_SLOTS],
+    number: Option<usize>,
+    place: usize,
+) -> Result<(), Refusal>
     ensures { verdict_of result ≡ reads_number slots kinds place number }
 {
     match number {
-        NumberSlot::At(slot) => reads_slot(slots, kinds, WHOLE_KIND, slot, place),
-        NumberSlot::Absent => Checked::Accepted,
+        Some(slot) => reads_slot(slots, kinds, Kind::Whole, slot, place),
+        None => Ok(()),
     }
 }
 
 // The names of tag 6.
 fn names_handle(
     slots: usize,
-    kinds: [u8; MAX_SLOTS],
+    kinds: [Kind; MAX_SLOTS],
     at: usize,
     handler: usize,
-    value: NumberSlot,
-) -> Checked
+    value: Option<usize>,
+) -> Result<(), Refusal>
     requires { at ≤ file_limit }
     ensures { verdict_of result ≡ handle_names slots kinds at handler value }
 {
     or_else(
-        reads_slot(slots, kinds, HANDLER_KIND, handler, at + 1),
+        reads_slot(slots, kinds, Kind::Handler, handler, at + 1),
         reads_number(slots, kinds, value, at + 2),
     )
 }
@@ -167,22 +166,22 @@ fn names_handle(
 // The names of tag 7.
 fn names_branch(
     slots: usize,
-    kinds: [u8; MAX_SLOTS],
+    kinds: [Kind; MAX_SLOTS],
     at: usize,
     left: usize,
     right: usize,
-) -> Checked
+) -> Result<(), Refusal>
     requires { at ≤ file_limit }
-    ensures { verdict_of result ≡ or_else (reads slots kinds whole_kind (at + 1) left) (reads slots kinds whole_kind (at + 2) right) }
+    ensures { verdict_of result ≡ or_else (reads slots kinds Kind.Whole (at + 1) left) (reads slots kinds Kind.Whole (at + 2) right) }
 {
     or_else(
-        reads_slot(slots, kinds, WHOLE_KIND, left, at + 1),
-        reads_slot(slots, kinds, WHOLE_KIND, right, at + 2),
+        reads_slot(slots, kinds, Kind::Whole, left, at + 1),
+        reads_slot(slots, kinds, Kind::Whole, right, at + 2),
     )
 }
 
 // The names of tag 8.
-fn names_continuation(slots: usize, at: usize, slot: usize, parameter: usize) -> Checked
+fn names_continuation(slots: usize, at: usize, slot: usize, parameter: usize) -> Result<(), Refusal>
     requires { at ≤ file_limit }
     ensures { verdict_of result ≡ or_else (binds slots (at + 1) slot) (binds slots (at + 2) parameter) }
 {
@@ -193,12 +192,12 @@ fn names_continuation(slots: usize, at: usize, slot: usize, parameter: usize) ->
 }
 
 // The handler parameter slot of tag 9, if there is one.
-fn binds_number(slots: usize, number: NumberSlot, place: usize) -> Checked
+fn binds_number(slots: usize, number: Option<usize>, place: usize) -> Result<(), Refusal>
     ensures { verdict_of result ≡ binds_number slots place number }
 {
     match number {
-        NumberSlot::At(slot) => binds_slot(slots, slot, place),
-        NumberSlot::Absent => Checked::Accepted,
+        Some(slot) => binds_slot(slots, slot, place),
+        None => Ok(()),
     }
 }
 
@@ -209,8 +208,8 @@ fn names_continuation_with_handler(
     slot: usize,
     parameter: usize,
     handler: usize,
-    number: NumberSlot,
-) -> Checked
+    number: Option<usize>,
+) -> Result<(), Refusal>
     requires { at ≤ file_limit }
     ensures { verdict_of result ≡ continuation_with_handler_names slots at slot parameter handler number }
 {
@@ -223,7 +222,12 @@ fn names_continuation_with_handler(
 }
 
 // The names of a node that is no jump.
-fn names_of_slots(slots: usize, kinds: [u8; MAX_SLOTS], at: usize, tag: Tag) -> Checked
+fn names_of_slots(
+    slots: usize,
+    kinds: [Kind; MAX_SLOTS],
+    at: usize,
+    tag: Tag,
+) -> Result<(), Refusal>
     requires { (at ≤ file_limit) × NoJump tag }
     ensures { (ps s : List ℕ) → verdict_of result ≡ names_of slots ps kinds s at tag }
 {
@@ -236,7 +240,7 @@ fn names_of_slots(slots: usize, kinds: [u8; MAX_SLOTS], at: usize, tag: Tag) -> 
             right,
             ..
         } => names_difference(slots, kinds, at, slot, left, right),
-        Tag::Jump { .. } => Checked::Accepted,
+        Tag::Jump { .. } => Ok(()),
         Tag::Resume {
             continuation,
             value,
@@ -262,7 +266,7 @@ fn names_of_slots(slots: usize, kinds: [u8; MAX_SLOTS], at: usize, tag: Tag) -> 
             right,
             ..
         } => names_difference(slots, kinds, at, slot, left, right),
-        Tag::Refused(_) => Checked::Accepted,
+        Tag::Refused(_) => Ok(()),
     }
 }
 
@@ -271,10 +275,10 @@ fn names_of(
     file: &[u8],
     params: &[u8],
     slots: usize,
-    kinds: [u8; MAX_SLOTS],
+    kinds: [Kind; MAX_SLOTS],
     at: usize,
     tag: Tag,
-) -> Checked
+) -> Result<(), Refusal>
     requires { NodeAt file.now at tag }
     ensures { verdict_of result ≡ names_of slots params.now kinds file.now at tag }
 {
@@ -307,15 +311,15 @@ pub fn judge(
     names: bool,
     file: &[u8],
     params: &[u8],
-    kinds: [u8; MAX_SLOTS],
+    kinds: [Kind; MAX_SLOTS],
     at: usize,
     tag: Tag,
-) -> Checked
+) -> Result<(), Refusal>
     requires { NodeAt file.now at tag }
     ensures { verdict_of result ≡ judged names params.now kinds file.now at tag }
 {
     if names {
         return names_of(file, params, tag::slots_of(file), kinds, at, tag);
     }
-    Checked::Accepted
+    Ok(())
 }

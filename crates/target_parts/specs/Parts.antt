@@ -1,9 +1,8 @@
 -- The parts of a node (document 01, 'The translated file'): their lengths and levels, and what follows them.
-use Rattle.std.specs.Prelude.{ℕ, ◌+◌, cond, List, leb, ltb, eqb, length}
+use Rattle.parsing.specs.declared.Refusal.{Refusal}
+use Rattle.std.specs.Prelude.{ℕ, ◌+◌, cond, List, leb, ltb, eqb, length, Err, Ok, Result}
 use Rattle.semantics.specs.Code.{Expr}
-use Rattle.parsing.specs.declared.Scan.{Scan}
-use Rattle.parsing.specs.declared.Scan.TheVariants.{Past, Stopped}
-use Rattle.parsing.specs.Refusals.{ends_early, out_of_range, wrong_length}
+use Rattle.parsing.specs.declared.reason.Reason.TheVariants.{EndsEarly, OutOfRange, WrongLength}
 use Rattle.parsing.specs.Parser.{refusal, Parsed, read, refuse, Parser, and_then, Verdict, or_else, refused_unless}
 use Rattle.parsing.specs.Fields.{cut}
 use Rattle.target_tags.specs.declared.tag.Tag.{Tag}
@@ -18,7 +17,7 @@ pair s at = cond (leb (at + 2) (length s)) (read (pair_at s at) (at + 2)) (refus
 
 -- "12 length unlike the part read", at the length: a part that begins at an offset and is to be n bytes long.
 abbrev pub measured : ℕ → ℕ → ℕ → Parsed Expr → Parsed Expr
-measured place at n (read e next) = cond (eqb next (at + n)) (read e (at + n)) (refuse (refusal wrong_length place))
+measured place at n (read e next) = cond (eqb next (at + n)) (read e (at + n)) (refuse (refusal WrongLength place))
 measured place at n (refuse r) = refuse r
 
 -- A length of 16 bits and its part, "a length being compared when its part is read".
@@ -27,27 +26,27 @@ sized p s at = and_then (pair s at) (λ n m. measured at m n (p s m))
 
 -- Whether a part may begin at an offset, one level deeper: "5 .. a 17th level (at its first tag; if that byte is missing 3, else 5 before 6)."
 unfoldable pub level_verdict : List ℕ → ℕ → ℕ → Verdict
-level_verdict s level at = or_else (refused_unless (ltb at (length s)) ends_early (length s)) (refused_unless (ltb level 16) out_of_range at)
+level_verdict s level at = or_else (refused_unless (ltb at (length s)) EndsEarly (length s)) (refused_unless (ltb level 16) OutOfRange at)
 
 -- ── What the functions answer ───────────────────────────────────────────────────────────────────
 
-unfoldable pub measured_end : ℕ → ℕ → ℕ → Scan → Scan
-measured_end place at n (Past next) = cond (eqb next (at + n)) (Past next) (Stopped (refusal wrong_length place))
-measured_end place at n (Stopped r) = Stopped r
+unfoldable pub measured_end : ℕ → ℕ → ℕ → Result ℕ Refusal → Result ℕ Refusal
+measured_end place at n (Ok next) = cond (eqb next (at + n)) (Ok next) (Err (refusal WrongLength place))
+measured_end place at n (Err r) = Err r
 
 -- The end of a node's own fields.
-unfoldable pub fields_end : Tag → Scan
-fields_end (Constant x i next) = Past next
-fields_end (Copy x y next) = Past next
-fields_end (Difference x y z next) = Past next
-fields_end (Jump g k h n next) = Past next
-fields_end (Resume k y next) = Past next
-fields_end (Handle h y next) = Past next
-fields_end (Branch y z n next) = Past next
-fields_end (Continuation x p n next) = Past next
-fields_end (ContinuationWithHandler x p t q n next) = Past next
-fields_end (DifferenceOrRaise x y z n next) = Past next
-fields_end (Refused r) = Stopped r
+unfoldable pub fields_end : Tag → Result ℕ Refusal
+fields_end (Constant x i next) = Ok next
+fields_end (Copy x y next) = Ok next
+fields_end (Difference x y z next) = Ok next
+fields_end (Jump g k h n next) = Ok next
+fields_end (Resume k y next) = Ok next
+fields_end (Handle h y next) = Ok next
+fields_end (Branch y z n next) = Ok next
+fields_end (Continuation x p n next) = Ok next
+fields_end (ContinuationWithHandler x p t q n next) = Ok next
+fields_end (DifferenceOrRaise x y z n next) = Ok next
+fields_end (Refused r) = Err r
 
 -- What follows a node whose nested parts end at an offset: the node binds a slot, ends the expression, or neither.
 unfoldable pub follows_at : Tag → ℕ → After
@@ -63,6 +62,6 @@ follows_at (ContinuationWithHandler x p t q n next) m = Bound m p
 follows_at (DifferenceOrRaise x y z n next) m = Bound m x
 follows_at (Refused r) m = Halted r
 
-abbrev pub follows_of : Tag → Scan → After
-follows_of t (Past m) = follows_at t m
-follows_of t (Stopped r) = Halted r
+abbrev pub follows_of : Tag → Result ℕ Refusal → After
+follows_of t (Ok m) = follows_at t m
+follows_of t (Err r) = Halted r

@@ -6,7 +6,7 @@ ghost use Rattle.target_parts.specs.Parts.{level_verdict, measured_end, fields_e
 ghost use Rattle.target_parts.specs.Parts as parts;
 
 use casts::pair;
-use parsing::{Checked, Count, Refusal, Scan, or_else, refusals, refused_unless};
+use parsing::{Reason, Refusal, or_else, refused_unless};
 use target_tags::tag::Tag;
 
 // What follows a node: an expression that goes on, with the same slots or with one more bound to a whole number; or the end of the expression.
@@ -19,67 +19,63 @@ pub enum After {
 }
 
 // A length of 16 bits, once it is whole.
-pub fn size_at(file: &[u8], at: usize) -> Count
+pub fn size_at(file: &[u8], at: usize) -> Result<usize, Refusal>
     ensures { result ≡ counted (parts.pair file.now at) }
 {
-    if at < file.len() {
-        let second = at + 1;
-        if second < file.len() {
-            return Count::Is(pair(file[at], file[second]));
-        }
+    if at < file.len() && at + 1 < file.len() {
+        return Ok(pair(file[at], file[at + 1]));
     }
-    Count::Outside(Refusal {
-        number: refusals::ENDS_EARLY,
+    Err(Refusal {
+        reason: Reason::EndsEarly,
         place: file.len(),
     })
 }
 
 // The end of a part that begins at `at` and is to be `size` bytes long.
-pub fn measured_end(part: Scan, at: usize, size: usize, place: usize) -> Scan
+pub fn measured_end(
+    part: Result<usize, Refusal>,
+    at: usize,
+    size: usize,
+    place: usize,
+) -> Result<usize, Refusal>
     ensures { result ≡ measured_end place at size part }
 {
-    match part {
-        Scan::Stopped(first) => Scan::Stopped(first),
-        Scan::Past(next) => {
-            if at <= next {
-                if next - at == size {
-                    return Scan::Past(next);
-                }
-            }
-            Scan::Stopped(Refusal {
-                number: refusals::WRONG_LENGTH,
-                place,
-            })
-        }
+    let next = part?;
+    if at <= next && next - at == size {
+        return Ok(next);
     }
+    Err(Refusal {
+        reason: Reason::WrongLength,
+        place,
+    })
 }
 
 // A part one level deeper begins here.
-pub fn level_checked(file: &[u8], level: usize, at: usize) -> Checked
+pub fn level_checked(file: &[u8], level: usize, at: usize) -> Result<(), Refusal>
     ensures { verdict_of result ≡ level_verdict file.now level at }
 {
     or_else(
-        refused_unless(at < file.len(), refusals::ENDS_EARLY, file.len()),
-        refused_unless(level < 16, refusals::OUT_OF_RANGE, at),
+        refused_unless(at < file.len(), Reason::EndsEarly, file.len()),
+        refused_unless(level < 16, Reason::OutOfRange, at),
     )
 }
 
 // The end of a node's own fields.
-pub fn fields_end(node: Tag) -> Scan
+pub fn fields_end(node: Tag) -> Result<usize, Refusal>
     ensures { result ≡ fields_end node }
 {
     match node {
-        Tag::Constant { next, .. } => Scan::Past(next),
-        Tag::Copy { next, .. } => Scan::Past(next),
-        Tag::Difference { next, .. } => Scan::Past(next),
-        Tag::Jump { next, .. } => Scan::Past(next),
-        Tag::Resume { next, .. } => Scan::Past(next),
-        Tag::Handle { next, .. } => Scan::Past(next),
-        Tag::Branch { next, .. } => Scan::Past(next),
-        Tag::Continuation { next, .. } => Scan::Past(next),
-        Tag::ContinuationWithHandler { next, .. } => Scan::Past(next),
-        Tag::DifferenceOrRaise { next, .. } => Scan::Past(next),
-        Tag::Refused(r) => Scan::Stopped(r),
+        Tag::Constant { next, .. } => Ok(next),
+        Tag::Copy { next, .. } => Ok(next),
+        Tag::Difference { next, .. } => Ok(next),
+        Tag::Jump { next, .. } => Ok(next),
+        Tag::Resume { next, .. } => Ok(next),
+        Tag::Handle { next, .. } => Ok(next),
+        Tag::Branch { next, .. } => Ok(next),
+        Tag::Continuation { next, .. } => Ok(next),
+        Tag::ContinuationWithHandler { next, .. } => Ok(next),
+        Tag::DifferenceOrRaise { next, .. } => Ok(next),
+        Tag::Refused(r) => Err(r),
     }
 }
 
@@ -109,11 +105,11 @@ fn follows_at(node: Tag, next: usize) -> After
 }
 
 // What follows a node whose nested parts were read.
-pub fn follows(node: Tag, parts: Scan) -> After
+pub fn follows(node: Tag, parts: Result<usize, Refusal>) -> After
     ensures { result ≡ follows_of node parts }
 {
     match parts {
-        Scan::Past(next) => follows_at(node, next),
-        Scan::Stopped(r) => After::Halted(r),
+        Ok(next) => follows_at(node, next),
+        Err(r) => After::Halted(r),
     }
 }

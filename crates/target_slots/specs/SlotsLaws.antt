@@ -1,19 +1,42 @@
 -- Laws of slots and their kinds, as the functions over them meet them.
-use Rattle.std.specs.Prelude.{ℕ, ◌+◌, ◌≤◌, ◌<◌, ◌≡◌, List, eqb, get_or}
-use Rattle.std.proofs.Common.{add-one, lt-ltb, le-ltb}
+use Rattle.parsing.specs.declared.reason.Reason.{Reason}
+use Rattle.parsing.specs.declared.reason.Reason.TheVariants.{WrongSlot}
+use Rattle.std.specs.Prelude.{ℕ, ◌+◌, ◌≤◌, ◌<◌, ◌≡◌, refl, true, List, get_or}
+use denote.Enum.Bare.{sameb, same_true}
+use Rattle.std.proofs.Common.{◌∙◌, add-one, lt-ltb, le-ltb}
 use Rattle.parsing.specs.Parser.{refused, refused_unless}
-use Rattle.target_slots.specs.Slots.{kind_refusal, binds, reads, bound, entry_kinds}
+use Rattle.target_slots.specs.declared.slots.Kind.{Kind}
+use Rattle.target_slots.specs.declared.slots.Kind.TheVariants.{Unbound, Whole, Continuation, Handler}
+use Rattle.target_slots.specs.contracts.slots.Kind.{the_type}
+use Rattle.target_slots.specs.Slots.{same_kind, kind_refusal, binds, reads, bound, entry_kinds}
+
+-- The test of two kinds: `==` of the code computes it by the variants' tags.
+pub tags_same : (j k : Kind) → sameb the_type j k ≡ same_kind j k
+tags_same Unbound Unbound = refl
+tags_same Whole Whole = refl
+tags_same Continuation Continuation = refl
+tags_same Handler Handler = refl
+tags_same j k = refl
+
+pub same_kind-true : (j k : Kind) → same_kind j k ≡ true → j ≡ k
+same_kind-true j k e = same_true the_type tt j k (tags_same j k ∙ e)
+
+pub same_kind-refl : (k : Kind) → same_kind k k ≡ true
+same_kind-refl Unbound = refl
+same_kind-refl Whole = refl
+same_kind-refl Continuation = refl
+same_kind-refl Handler = refl
 
 -- A slot that is read, within the slots that there are and beyond them.
-module _ (m : ℕ) (ks : List ℕ) (k place x : ℕ) where
-  pub reads_within : {b n : ℕ} → x < m → b ≡ get_or ks x 0 → n ≡ kind_refusal k b → refused_unless (eqb b k) n place ≡ reads m ks k place x
+module _ (m : ℕ) (ks : List Kind) (k : Kind) (place x : ℕ) where
+  pub reads_within : {b : Kind} {n : Reason} → x < m → b ≡ get_or ks x Unbound → n ≡ kind_refusal k b → refused_unless (same_kind b k) n place ≡ reads m ks k place x
   unfolding reads binds
   reads_within h is e = rw (lt-ltb x m h, e, is)
 
-  pub reads_beyond : m ≤ x → reads m ks k place x ≡ refused 13 place
+  pub reads_beyond : m ≤ x → reads m ks k place x ≡ refused WrongSlot place
   unfolding reads binds
   reads_beyond h = rw (le-ltb x m h)
 
-pub entry_more : (n : ℕ) (ks new : List ℕ) → ks ≡ entry_kinds n → new ≡ bound ks (2 + n) 1 → new ≡ entry_kinds (n + 1)
+pub entry_more : (n : ℕ) (ks new : List Kind) → ks ≡ entry_kinds n → new ≡ bound ks (2 + n) Whole → new ≡ entry_kinds (n + 1)
 unfolding entry_kinds
 entry_more n ks new e f = rw (f, e, add-one n)

@@ -2,82 +2,78 @@
 ghost use Rattle.std.specs.Prelude.{◌≡◌, ◌≤◌, get_or};
 ghost use Rattle.parsing.specs.Parser.{verdict_of};
 ghost use Rattle.target_tags.specs.Tag.{max_parameters};
-ghost use Rattle.target_slots.specs.Slots.{unbound_kind, kind_refusal, binds, reads, differ, bound, bound_number, entry_kinds};
+ghost use Rattle.target_slots.specs.Slots.{kind_refusal, binds, reads, differ, bound, bound_number, entry_kinds};
 
-use parsing::{Checked, Refusal, refusals, refused_unless};
-use target_tags::tag::{MAX_SLOTS, NumberSlot};
+use parsing::{Reason, Refusal, refused_unless};
+use target_tags::tag::MAX_SLOTS;
 
-// The kinds of slots.
-pub const UNBOUND_KIND: u8 = 0;
-
-pub const WHOLE_KIND: u8 = 1;
-
-pub const CONTINUATION_KIND: u8 = 2;
-
-pub const HANDLER_KIND: u8 = 3;
-
-// A slot that is bound, where there are so many slots.
-pub fn binds_slot(slots: usize, slot: usize, place: usize) -> Checked
-    ensures { verdict_of result ≡ binds slots place slot }
-{
-    refused_unless(slot < slots, refusals::WRONG_SLOT, place)
+// The kinds of slots: "Slots are whole, continuation or handler."
+#[derive(Clone, Copy, PartialEq, Eq)]
+pub enum Kind {
+    Unbound,
+    Whole,
+    Continuation,
+    Handler,
 }
 
-// The number told for a slot of another kind than the one needed.
-fn kind_refusal(needed: u8, bound: u8) -> u8
+// A slot that is bound, where there are so many slots.
+pub fn binds_slot(slots: usize, slot: usize, place: usize) -> Result<(), Refusal>
+    ensures { verdict_of result ≡ binds slots place slot }
+{
+    refused_unless(slot < slots, Reason::WrongSlot, place)
+}
+
+// The reason told for a slot of another kind than the one needed.
+fn kind_refusal(needed: Kind, bound: Kind) -> Reason
     ensures { result ≡ kind_refusal needed bound }
 {
-    if bound == UNBOUND_KIND {
-        return refusals::UNBOUND_SLOT;
+    match (bound, needed) {
+        (Kind::Unbound, _) => Reason::UnboundSlot,
+        (_, Kind::Whole) => Reason::NotWhole,
+        (_, Kind::Continuation) => Reason::NotContinuation,
+        _ => Reason::NotHandler,
     }
-    if needed == WHOLE_KIND {
-        return refusals::NOT_WHOLE;
-    }
-    if needed == CONTINUATION_KIND {
-        return refusals::NOT_CONTINUATION;
-    }
-    refusals::NOT_HANDLER
 }
 
 // The kind of a slot.
-fn kind_of(kinds: [u8; MAX_SLOTS], slot: usize) -> u8
-    ensures { result ≡ get_or kinds slot unbound_kind }
+fn kind_of(kinds: [Kind; MAX_SLOTS], slot: usize) -> Kind
+    ensures { result ≡ get_or kinds slot Kind.Unbound }
 {
     if slot < MAX_SLOTS {
         return kinds[slot];
     }
-    UNBOUND_KIND
+    Kind::Unbound
 }
 
 // A slot that is read as one of a kind, where there are so many slots.
 pub fn reads_slot(
     slots: usize,
-    kinds: [u8; MAX_SLOTS],
-    kind: u8,
+    kinds: [Kind; MAX_SLOTS],
+    kind: Kind,
     slot: usize,
     place: usize,
-) -> Checked
+) -> Result<(), Refusal>
     ensures { verdict_of result ≡ reads slots kinds kind place slot }
 {
     if slot < slots {
         let bound = kind_of(kinds, slot);
         return refused_unless(bound == kind, kind_refusal(kind, bound), place);
     }
-    Checked::Refused(Refusal {
-        number: refusals::WRONG_SLOT,
+    Err(Refusal {
+        reason: Reason::WrongSlot,
         place,
     })
 }
 
 // The two slots of tag 9.
-pub fn differs(slot: usize, handler: usize, place: usize) -> Checked
+pub fn differs(slot: usize, handler: usize, place: usize) -> Result<(), Refusal>
     ensures { verdict_of result ≡ differ place slot handler }
 {
-    refused_unless(slot != handler, refusals::WRONG_SLOT, place)
+    refused_unless(slot != handler, Reason::WrongSlot, place)
 }
 
 // The kinds with a slot bound.
-pub fn bind(kinds: [u8; MAX_SLOTS], slot: usize, kind: u8) -> [u8; MAX_SLOTS]
+pub fn bind(kinds: [Kind; MAX_SLOTS], slot: usize, kind: Kind) -> [Kind; MAX_SLOTS]
     ensures { result ≡ bound kinds slot kind }
 {
     let mut new = kinds;
@@ -88,27 +84,25 @@ pub fn bind(kinds: [u8; MAX_SLOTS], slot: usize, kind: u8) -> [u8; MAX_SLOTS]
 }
 
 // The kinds with a number's slot bound, if there is one.
-pub fn bind_number(kinds: [u8; MAX_SLOTS], number: NumberSlot) -> [u8; MAX_SLOTS]
+pub fn bind_number(kinds: [Kind; MAX_SLOTS], number: Option<usize>) -> [Kind; MAX_SLOTS]
     ensures { result ≡ bound_number kinds number }
 {
     match number {
-        NumberSlot::At(slot) => bind(kinds, slot, WHOLE_KIND),
-        NumberSlot::Absent => kinds,
+        Some(slot) => bind(kinds, slot, Kind::Whole),
+        None => kinds,
     }
 }
 
 // The kinds with which a function begins.
-pub fn entry_kinds(params: usize) -> [u8; MAX_SLOTS]
+pub fn entry_kinds(params: usize) -> [Kind; MAX_SLOTS]
     requires { params ≤ max_parameters }
     ensures { result ≡ entry_kinds params }
 {
-    let mut kinds = [UNBOUND_KIND; MAX_SLOTS];
-    kinds[0] = CONTINUATION_KIND;
-    kinds[1] = HANDLER_KIND;
-    let mut i = 0;
-    while i < params {
-        kinds = bind(kinds, 2 + i, WHOLE_KIND);
-        i += 1;
+    let mut kinds = [Kind::Unbound; MAX_SLOTS];
+    kinds[0] = Kind::Continuation;
+    kinds[1] = Kind::Handler;
+    for i in 0..params {
+        kinds = bind(kinds, 2 + i, Kind::Whole);
     }
     kinds
 }

@@ -1,4 +1,5 @@
 -- The tags of translated files. Definitions.
+pub mod NumberSlot
 pub mod Tag
 -- Laws.
 pub mod TagLaws

@@ -3,8 +3,8 @@ ghost use Rattle.std.specs.Prelude.{◌≡◌, length, ◌+◌, ◌*◌, ◌≤�
 ghost use Rattle.parsing.specs.Fields.{cut, version_of};
 ghost use Rattle.target_tags.specs.Tag.{slots_in, number_width, number_slot_at, tag_at, constant_at, copy_at, difference_at, jump_at, resume_at, handle_at, branch_at, continuation_at, continuation_with_handler_at, difference_or_raise_at};
 
-use casts::{byte_number, pair};
-use parsing::{Refusal, refusals};
+use casts::pair;
+use parsing::{Reason, Refusal};
 
 // The slots of either version: "Slots are 0 to 35.", in version 2 0 to 36.
 pub const MAX_SLOTS: usize = 37;
@@ -14,13 +14,6 @@ pub const FILE_LIMIT: usize = 65535;
 
 // "Parameter count (0 to 32)": values of a jump at most.
 pub const MAX_PARAMETERS: usize = 32;
-
-// The slot of a number raised, which files of version 2 have: the value slot of tag 6, the handler parameter slot of tag 9.
-#[derive(Clone, Copy)]
-pub enum NumberSlot {
-    At(usize),
-    Absent,
-}
 
 // A node as it stands in the file: its fields, and the offset past them. Its names are not judged here.
 #[derive(Clone, Copy)]
@@ -55,7 +48,7 @@ pub enum Tag {
     },
     Handle {
         handler: usize,
-        value: NumberSlot,
+        value: Option<usize>,
         next: usize,
     },
     Branch {
@@ -74,7 +67,7 @@ pub enum Tag {
         slot: usize,
         parameter: usize,
         handler: usize,
-        number: NumberSlot,
+        number: Option<usize>,
         size: usize,
         next: usize,
     },
@@ -109,21 +102,21 @@ pub fn number_width(file: &[u8]) -> usize
 }
 
 // The slot of a number that stands at an offset.
-pub fn number_slot_at(file: &[u8], at: usize) -> NumberSlot
+pub fn number_slot_at(file: &[u8], at: usize) -> Option<usize>
     requires { at + number_width (version_of file.now) ≤ length file.now }
     ensures { result ≡ number_slot_at file.now at }
 {
     if parsing::version_of(file) == 2 {
-        return NumberSlot::At(byte_number(file[at]));
+        return Some(usize::from(file[at]));
     }
-    NumberSlot::Absent
+    None
 }
 
 fn cut(file: &[u8]) -> Tag
     ensures { result ≡ Tag.Refused (cut file.now) }
 {
     Tag::Refused(Refusal {
-        number: refusals::ENDS_EARLY,
+        reason: Reason::EndsEarly,
         place: file.len(),
     })
 }
@@ -136,7 +129,7 @@ fn constant_at(file: &[u8], at: usize) -> Tag
     if file.len() < next {
         return cut(file);
     }
-    let slot = byte_number(file[at + 1]);
+    let slot = usize::from(file[at + 1]);
     let i = at + 2;
     let value = parsing::value(file[i], file[i + 1], file[i + 2], file[i + 3]);
     Tag::Constant { slot, value, next }
@@ -150,8 +143,8 @@ fn copy_at(file: &[u8], at: usize) -> Tag
     if file.len() < next {
         return cut(file);
     }
-    let slot = byte_number(file[at + 1]);
-    let from = byte_number(file[at + 2]);
+    let slot = usize::from(file[at + 1]);
+    let from = usize::from(file[at + 2]);
     Tag::Copy { slot, from, next }
 }
 
@@ -163,9 +156,9 @@ fn difference_at(file: &[u8], at: usize) -> Tag
     if file.len() < next {
         return cut(file);
     }
-    let slot = byte_number(file[at + 1]);
-    let left = byte_number(file[at + 2]);
-    let right = byte_number(file[at + 3]);
+    let slot = usize::from(file[at + 1]);
+    let left = usize::from(file[at + 2]);
+    let right = usize::from(file[at + 3]);
     Tag::Difference {
         slot,
         left,
@@ -182,15 +175,15 @@ fn jump_at(file: &[u8], at: usize) -> Tag
     if file.len() < values {
         return cut(file);
     }
-    let count = byte_number(file[at + 5]);
+    let count = usize::from(file[at + 5]);
     let next = values + count;
     if file.len() < next {
         return cut(file);
     }
     let field = at + 1;
     let function = pair(file[field], file[field + 1]);
-    let continuation = byte_number(file[at + 3]);
-    let handler = byte_number(file[at + 4]);
+    let continuation = usize::from(file[at + 3]);
+    let handler = usize::from(file[at + 4]);
     Tag::Jump {
         function,
         continuation,
@@ -208,8 +201,8 @@ fn resume_at(file: &[u8], at: usize) -> Tag
     if file.len() < next {
         return cut(file);
     }
-    let continuation = byte_number(file[at + 1]);
-    let value = byte_number(file[at + 2]);
+    let continuation = usize::from(file[at + 1]);
+    let value = usize::from(file[at + 2]);
     Tag::Resume {
         continuation,
         value,
@@ -226,7 +219,7 @@ fn handle_at(file: &[u8], at: usize) -> Tag
     if file.len() < next {
         return cut(file);
     }
-    let handler = byte_number(file[at + 1]);
+    let handler = usize::from(file[at + 1]);
     let value = number_slot_at(file, place);
     Tag::Handle {
         handler,
@@ -243,8 +236,8 @@ fn branch_at(file: &[u8], at: usize) -> Tag
     if file.len() < next {
         return cut(file);
     }
-    let left = byte_number(file[at + 1]);
-    let right = byte_number(file[at + 2]);
+    let left = usize::from(file[at + 1]);
+    let right = usize::from(file[at + 2]);
     let field = at + 3;
     let size = pair(file[field], file[field + 1]);
     Tag::Branch {
@@ -263,8 +256,8 @@ fn continuation_at(file: &[u8], at: usize) -> Tag
     if file.len() < next {
         return cut(file);
     }
-    let slot = byte_number(file[at + 1]);
-    let parameter = byte_number(file[at + 2]);
+    let slot = usize::from(file[at + 1]);
+    let parameter = usize::from(file[at + 2]);
     let field = at + 3;
     let size = pair(file[field], file[field + 1]);
     Tag::Continuation {
@@ -285,9 +278,9 @@ fn continuation_with_handler_at(file: &[u8], at: usize) -> Tag
     if file.len() < next {
         return cut(file);
     }
-    let slot = byte_number(file[at + 1]);
-    let parameter = byte_number(file[at + 2]);
-    let handler = byte_number(file[at + 3]);
+    let slot = usize::from(file[at + 1]);
+    let parameter = usize::from(file[at + 2]);
+    let handler = usize::from(file[at + 3]);
     let place = at + 4;
     let number = number_slot_at(file, place);
     let field = place + width;
@@ -310,9 +303,9 @@ fn difference_or_raise_at(file: &[u8], at: usize) -> Tag
     if file.len() < next {
         return cut(file);
     }
-    let slot = byte_number(file[at + 1]);
-    let left = byte_number(file[at + 2]);
-    let right = byte_number(file[at + 3]);
+    let slot = usize::from(file[at + 1]);
+    let left = usize::from(file[at + 2]);
+    let right = usize::from(file[at + 3]);
     let field = at + 4;
     let size = pair(file[field], file[field + 1]);
     Tag::DifferenceOrRaise {
@@ -343,7 +336,7 @@ pub fn tag_at(file: &[u8], at: usize) -> Tag
         9 => continuation_with_handler_at(file, at),
         10 => difference_or_raise_at(file, at),
         _ => Tag::Refused(Refusal {
-            number: refusals::UNKNOWN,
+            reason: Reason::Unknown,
             place: at,
         }),
     }

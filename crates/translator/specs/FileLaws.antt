@@ -15,10 +15,10 @@ use Rattle.semantics.specs.Translation.{targets, number, translate_function, tra
 use Rattle.semantics.specs.Controller.{code_version}
 use Rattle.semantics.proofs.TranslationLaws.{length_translate_function}
 use Rattle.procedure_file.specs.Check.{program_of}
-use Rattle.procedure_file.specs.Loaded.{Laid, Loaded}
+use Rattle.procedure_file.specs.Loaded.{Laid}
 use Rattle.procedure_file.proofs.AcceptedLaws.{laid_reads}
 use Rattle.procedure_file.proofs.TableLaws.{blocks_bound_lem}
-use Rattle.procedure_file.proofs.LoadedLaws.{loaded_invariant}
+use Rattle.procedure_file.specs.FileInvariant.{FileInvariant}
 use Rattle.target_file.specs.Writing.{target_bytes, writing}
 use Rattle.translator_sizes.specs.declared.Fields.{Fields}
 use Rattle.translator.specs.Translated.{translation_of}
@@ -146,19 +146,18 @@ module _ {s : List ℕ} (L : Laid s) {f n : ℕ} {ns : List ℕ} (N : Numbering 
       (N.is ∙ ap (number P) e ∙ sym (length_from (number P) 0 P), numbering_bound.0, λ g k. N.done g (omega arith))
 
 -- Writing the part of a block.
-module _ {s starts : List ℕ} (L : Loaded s starts) (f : ℕ) (there : f < length (program_of s)) (l : ℕ) (block : l ≤ length (function_of (program_of s) f).blocks)
+module _ {s : List ℕ} (K : FileInvariant s) (f : ℕ) (there : f < length (program_of s)) (l : ℕ) (block : l ≤ length (function_of (program_of s) f).blocks)
     (x : Fields) (e : x ≡ fields_of (program_of s) f l) (ns : List ℕ) (N : Numbered s ns) (base : ℕ) (eb : base ≡ get_or ns f 0) where
   pub label_placed : Placed s ns base x.under.variables x.start
   label_placed =
-      let T = L.tabled.laid in
       record {
-        here = label_here L f there l block x e;
+        here = label_here K f there l block x e;
         numbered = N;
-        base_bound = omega (arith, eb, N f there, base_bound_lem s T f (omega arith), functions_bound s T);
+        base_bound = omega (arith, eb, N f there, number_bound (program_of s) (λ g k. (K.counts g k).blocks) f (omega arith), K.most);
       }
 
   pub label_part : label_bytes s f l ≡ part_bytes s base x.params x.locals x.under x.start
-  label_part = rw (eb, N f there) (label_is L f there l block x e)
+  label_part = rw (eb, N f there) (label_is K f there l block x e)
 
 -- The translation of a loaded file has its version.
 first_version : (P : Program) → 1 ≤ length P → code_version (translate P) ≡ (function_of P 0).version
@@ -166,10 +165,10 @@ unfolding translate
 first_version [] h = absurd (omega arith)
 first_version (F ∷ P) h = refl
 
-pub version_kept : {s starts : List ℕ} → Loaded s starts → {v : ℕ} → v ≡ version_of s → v ≡ code_version (translate (program_of s))
-version_kept {s} L ev =
-    let h : 1 ≤ length (program_of s) = (laid_reads L.tabled.laid).least in
-    ev ∙ sym (first_version (program_of s) h ∙ (loaded_invariant L).version 0 h)
+pub version_kept : {s : List ℕ} → Laid s → FileInvariant s → {v : ℕ} → v ≡ version_of s → v ≡ code_version (translate (program_of s))
+version_kept {s} L K ev =
+    let h : 1 ≤ length (program_of s) = (laid_reads L).least in
+    ev ∙ sym (first_version (program_of s) h ∙ K.version 0 h)
 
 -- The whole file: mark, version, count, functions.
 module _ (s : List ℕ) {o : ℕ} {d : List ℕ} (R : Room o (length (translation_of s)) d) where

@@ -2,28 +2,21 @@
 -- 17; then 16.
 use Rattle.std.specs.Prelude.{ℕ, List, leb, length}
 use Rattle.semantics.specs.Translation.{translate}
-use Rattle.parsing.specs.Refusals.{no_room, translation_too_long}
+use Rattle.parsing.specs.declared.reason.Reason.TheVariants.{NoRoom, TranslationTooLong}
 use Rattle.parsing.specs.Parser.{Verdict, or_else, refused_unless}
 use Rattle.target_tags.specs.Tag.{file_limit}
-use Rattle.runs.specs.Tells.{Tells, refuses, tells, by_verdict, leaves}
+use Rattle.runs.specs.Tells.{Tells, by_verdict, leaves}
 use Rattle.procedure_file.specs.Check.{check_of, program_of}
 use Rattle.target_file.specs.Writing.{writing}
-use Rattle.translator.specs.declared.Translated.{Translated}
-use Rattle.translator.specs.declared.Translated.TheVariants.{Written, Refused}
 
 -- The translated file of a procedure file: the writing of the translation of the program that the file is.
 unfoldable pub translation_of : List ℕ → List ℕ
 translation_of s = writing (translate (program_of s))
 
--- The translator's answer in document 01's numbers: the bytes of the translation, or a refusal's number and place.
-abbrev pub meaning : Translated → Tells ℕ
-meaning (Written n) = tells n
-meaning (Refused r) = refuses r.number r.place
-
 -- "17 translation above 65,535 bytes"; "16 .. a lent buffer too short (.. the whole translation)"; "then 14, 17, 16. Places of 14, 16 and
 -- 17 are 0."
 unfoldable pub room_verdict : (bytes room : ℕ) → Verdict
-room_verdict bytes room = or_else (refused_unless (leb bytes file_limit) translation_too_long 0) (refused_unless (leb bytes room) no_room 0)
+room_verdict bytes room = or_else (refused_unless (leb bytes file_limit) TranslationTooLong 0) (refused_unless (leb bytes room) NoRoom 0)
 
 -- The file's own checks, 1 to 10 and 15; then 17; then 16.
 unfoldable pub translate_verdict : List ℕ → ℕ → Verdict

@@ -6,7 +6,6 @@ ghost use Rattle.translator_bytes.specs.Bytes.{tabled, call_bytes, call_size, op
 ghost use Rattle.translator_sizes.specs.Parts.{bytes_at};
 ghost use Rattle.translator.specs.Asked.{Placed};
 
-use casts::offset_number;
 use procedure_fields::fields::{
     CallFields, branch_fields, call_fields, constant_bytes, copy_fields, difference_fields,
     goto_fields, number_at, raise_value_fields, return_fields,
@@ -31,9 +30,7 @@ fn put_called(
     requires room { Room o (call_size u x.count) out.old }
     ensures { Wrote o (call_bytes base u x.target.0 (tabled numbers.now x.function.0) x.count (arguments_at file.now at x.count)) out.old result out.new }
 {
-    let callee = x.function;
-    let i = callee.index();
-    let g = offset_number(numbers[i]);
+    let g = usize::from(numbers[x.function.index()]);
     jumps::put_call(file, at, out, o, base, u, x.target, g, x.count)
 }
 
@@ -51,8 +48,7 @@ fn put_operation(
     requires room { Room o (operation_size u (operation_at file.now at)) out.old }
     ensures { Wrote o (operation_bytes (tabled numbers.now) base u file.now at (operation_at file.now at)) out.old result out.new }
 {
-    let number = number_at(file, at);
-    match number {
+    match number_at(file, at) {
         1 => jumps::put_constant(out, o, constant_bytes(file, at)),
         2 => {
             let x = copy_fields(file, at);

@@ -212,6 +212,6 @@ module _ (x : ConstantBytes) (fits : ValueFits x) where
   four : value_bytes (value_of x.b0 x.b1 x.b2 x.b3) ≡ x.b0 ∷ x.b1 ∷ x.b2 ∷ x.b3 ∷ []
   four = value_back x.b0 x.b1 x.b2 x.b3 fits.0 fits.1 fits.2 fits.3
 
-  pub constant_wrote : {t o a r : ℕ} {d d₁ d₂ : List ℕ} → t ≡ x.target.0 + 2 → Room o 6 d → Wrote o (1 ∷ t ∷ []) d a d₁ → Wrote a (x.b0 ∷ x.b1 ∷ x.b2 ∷ x.b3 ∷ []) d₁ r d₂
-      → Wrote o ((1 ∷ (x.target.0 + 2) ∷ []) ++ value_bytes (value_of x.b0 x.b1 x.b2 x.b3)) d r d₂
-  constant_wrote {t} et R W Y = rw (← et) (wrote_after (1 ∷ t ∷ []) (value_bytes (value_of x.b0 x.b1 x.b2 x.b3)) R (omega arith) W (wrote_as four Y))
+  pub constant_wrote : {t o r : ℕ} {d d₁ : List ℕ} → t ≡ x.target.0 + 2 → Wrote o (1 ∷ t ∷ x.b0 ∷ x.b1 ∷ x.b2 ∷ x.b3 ∷ []) d r d₁
+      → Wrote o ((1 ∷ (x.target.0 + 2) ∷ []) ++ value_bytes (value_of x.b0 x.b1 x.b2 x.b3)) d r d₁
+  constant_wrote {t} et W = rw (← et) (wrote_as (ap (λ (w : List ℕ). 1 ∷ t ∷ w) four) W)

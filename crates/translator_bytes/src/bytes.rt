@@ -7,7 +7,7 @@ ghost use Rattle.byte_writers.specs.Writes.{Room, Wrote};
 ghost use Rattle.translator_bytes.specs.Writes.{CallInFile};
 ghost use Rattle.translator_bytes.specs.Bytes.{zeros};
 
-use byte_writers::{put_four, put_one, put_two};
+use byte_writers::put;
 use procedure_fields::fields::argument_at;
 use procedure_operations::numbers::VariableNumber;
 
@@ -18,12 +18,8 @@ pub fn put_slots(out: &mut [u8], o: usize, first: u8, n: u8) -> usize
     ensures { Wrote o (slots_from first n) out.old result out.new }
 {
     let mut place = o;
-    let mut slot = first;
-    let mut left = n;
-    while 0 < left {
-        left -= 1;
-        place = put_one(out, place, slot);
-        slot += 1;
+    for slot in first..first + n {
+        place = put(out, place, [slot]);
     }
     place
 }
@@ -33,8 +29,7 @@ pub fn slot_of(x: VariableNumber) -> u8
     requires { x.0 < max_variables }
     ensures { result ≡ x.0 + 2 }
 {
-    let slot = x.index() + 2;
-    slot as u8
+    (x.index() + 2) as u8
 }
 
 // The slots of the n arguments of the call at an offset.
@@ -43,13 +38,10 @@ pub fn put_arguments(file: &[u8], at: usize, out: &mut [u8], o: usize, n: u8) ->
     requires room { Room o n out.old }
     ensures { Wrote o (map slot_of (arguments_at file.now at n)) out.old result out.new }
 {
-    let count = n as usize;
     let mut place = o;
-    let mut i = 0;
-    while i < count {
+    for i in 0..usize::from(n) {
         let slot = slot_of(argument_at(file, at, i));
-        place = put_one(out, place, slot);
-        i += 1;
+        place = put(out, place, [slot]);
     }
     place
 }
@@ -61,12 +53,8 @@ pub fn put_zeros(out: &mut [u8], o: usize, first: u8, n: u8) -> usize
     ensures { Wrote o (zeros first n) out.old result out.new }
 {
     let mut place = o;
-    let mut slot = first;
-    let mut left = n;
-    while 0 < left {
-        left -= 1;
+    for slot in first..first + n {
         place = put_zero(out, place, slot);
-        slot += 1;
     }
     place
 }
@@ -76,6 +64,5 @@ pub fn put_zero(out: &mut [u8], o: usize, slot: u8) -> usize
     requires { Room o 6 out.old }
     ensures { Wrote o ((1 ∷ slot ∷ []) ++ (0 ∷ 0 ∷ 0 ∷ 0 ∷ [])) out.old result out.new }
 {
-    let value = put_two(out, o, 1, slot);
-    put_four(out, value, 0, 0, 0, 0)
+    put(out, o, [1, slot, 0, 0, 0, 0])
 }

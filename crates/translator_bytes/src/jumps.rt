@@ -9,6 +9,7 @@ ghost use Rattle.translator_bytes.specs.Writes.{CallInFile};
 ghost use Rattle.translator_bytes.specs.Bytes.{if_any, size_if_any, jump_head, label_jump, call_jump, plain_call, guarded_head, guarded_call, branch_bytes, raise_end, raise_end_size, raise_bytes, raise_size, raise_value_bytes, raise_value_size, difference_bytes, call_bytes, call_size};
 
 use crate::bytes;
+use byte_writers::{put, put_pair};
 use procedure_fields::fields::ConstantBytes;
 use procedure_operations::numbers::VariableNumber;
 
@@ -34,11 +35,7 @@ fn put_slot_if_any(out: &mut [u8], o: usize, slot: u8) -> usize
     requires { Room o (size_if_any slot 1) out.old }
     ensures { Wrote o (if_any slot (slot ∷ [])) out.old result out.new }
 {
-    if slot == 0 {
-        o
-    } else {
-        byte_writers::put_one(out, o, slot)
-    }
+    if slot == 0 { o } else { put(out, o, [slot]) }
 }
 
 // A slot, if any, bound to 0.
@@ -63,7 +60,7 @@ fn put_value_if_any(out: &mut [u8], o: usize, slot: u8, y: VariableNumber) -> us
     if slot == 0 {
         o
     } else {
-        byte_writers::put_three(out, o, 2, slot, from)
+        put(out, o, [2, slot, from])
     }
 }
 
@@ -80,9 +77,9 @@ fn put_jump_head(out: &mut [u8], o: usize, g: usize, k: u8, h: u8, n: u8) -> usi
     requires room { Room o 6 out.old }
     ensures { Wrote o (jump_head g k h n) out.old result out.new }
 {
-    let a = byte_writers::put_one(out, o, 4);
-    let b = byte_writers::put_pair(out, a, g);
-    byte_writers::put_three(out, b, k, h, n)
+    let a = put(out, o, [4]);
+    let b = put_pair(out, a, g);
+    put(out, b, [k, h, n])
 }
 
 // The jump to a label with all of v variables.
@@ -91,7 +88,7 @@ pub fn put_label_jump(out: &mut [u8], o: usize, base: usize, v: u8, l: u8) -> us
     requires room { Room o (6 + v) out.old }
     ensures { Wrote o (label_jump base v l) out.old result out.new }
 {
-    let g = base + (l as usize);
+    let g = base + usize::from(l);
     let a = put_jump_head(out, o, g, 0, 1, v);
     bytes::put_slots(out, a, 2, v)
 }
@@ -131,9 +128,9 @@ fn put_plain_call(
 {
     let k = v + 2;
     let target = bytes::slot_of(x);
-    let size = jump_size(n as usize);
-    let a = byte_writers::put_three(out, o, 8, k, target);
-    let b = byte_writers::put_pair(out, a, size);
+    let size = jump_size(usize::from(n));
+    let a = put(out, o, [8, k, target]);
+    let b = put_pair(out, a, size);
     put_call_jump(file, at, out, b, g, k, 1, n)
 }
 
@@ -142,7 +139,7 @@ fn put_guarded_head(out: &mut [u8], o: usize, k: u8, target: u8, t: u8, number: 
     requires { Room o (4 + size_if_any number 1) out.old }
     ensures { Wrote o (guarded_head k target t number) out.old result out.new }
 {
-    let a = byte_writers::put_four(out, o, 9, k, target, t);
+    let a = put(out, o, [9, k, target, t]);
     put_slot_if_any(out, a, number)
 }
 
@@ -165,12 +162,12 @@ fn put_guarded_call(
     let k = v + 2;
     let target = bytes::slot_of(x);
     let t = v + 3;
-    let size = jump_size(n as usize);
-    let other = jump_size(v as usize);
+    let size = jump_size(usize::from(n));
+    let other = jump_size(usize::from(v));
     let a = put_guarded_head(out, o, k, target, t, u.number_slot);
-    let b = byte_writers::put_pair(out, a, size);
+    let b = put_pair(out, a, size);
     let e = put_call_jump(file, at, out, b, g, k, t, n);
-    let f = byte_writers::put_pair(out, e, other);
+    let f = put_pair(out, e, other);
     put_label_jump(out, f, base, v, u.handler)
 }
 
@@ -214,9 +211,9 @@ pub fn put_branch(
 {
     let left = bytes::slot_of(y);
     let right = bytes::slot_of(z);
-    let size = jump_size(v as usize);
-    let a = byte_writers::put_three(out, o, 7, left, right);
-    let b = byte_writers::put_pair(out, a, size);
+    let size = jump_size(usize::from(v));
+    let a = put(out, o, [7, left, right]);
+    let b = put_pair(out, a, size);
     let e = put_label_jump(out, b, base, v, l);
     put_label_jump(out, e, base, v, m)
 }
@@ -226,7 +223,7 @@ pub fn raise_size(u: Under) -> usize
     requires { u.variables ≤ max_variables }
     ensures { (result ≡ raise_size u) × (result ≤ 12 + max_variables) }
 {
-    let jump = jump_size(u.variables as usize);
+    let jump = jump_size(usize::from(u.variables));
     let first = size_if_any(u.bound, 6);
     let last = size_if_any(u.number_slot, 1);
     if u.handler == 0 {
@@ -243,7 +240,7 @@ fn put_raise_end(out: &mut [u8], o: usize, base: usize, u: Under) -> usize
     ensures { Wrote o (raise_end base u) out.old result out.new }
 {
     if u.handler == 0 {
-        let a = byte_writers::put_two(out, o, 6, 1);
+        let a = put(out, o, [6, 1]);
         put_slot_if_any(out, a, u.number_slot)
     } else {
         put_label_jump(out, o, base, u.variables, u.handler)
@@ -265,7 +262,7 @@ pub fn raise_value_size(u: Under) -> usize
     requires { u.variables ≤ max_variables }
     ensures { (result ≡ raise_value_size u) × (result ≤ 12 + max_variables) }
 {
-    let jump = jump_size(u.variables as usize);
+    let jump = jump_size(usize::from(u.variables));
     let first = size_if_any(u.bound, 3);
     if u.handler == 0 { 3 } else { first + jump }
 }
@@ -278,7 +275,7 @@ pub fn put_raise_value(out: &mut [u8], o: usize, base: usize, u: Under, y: Varia
 {
     if u.handler == 0 {
         let value = bytes::slot_of(y);
-        byte_writers::put_three(out, o, 6, 1, value)
+        put(out, o, [6, 1, value])
     } else {
         let a = put_value_if_any(out, o, u.bound, y);
         put_label_jump(out, a, base, u.variables, u.handler)
@@ -292,8 +289,7 @@ pub fn put_constant(out: &mut [u8], o: usize, x: ConstantBytes) -> usize
     ensures { Wrote o ((1 ∷ (x.target.0 + 2) ∷ []) ++ value_bytes (value_of x.b0 x.b1 x.b2 x.b3)) out.old result out.new }
 {
     let target = bytes::slot_of(x.target);
-    let a = byte_writers::put_two(out, o, 1, target);
-    byte_writers::put_four(out, a, x.b0, x.b1, x.b2, x.b3)
+    put(out, o, [1, target, x.b0, x.b1, x.b2, x.b3])
 }
 
 // 2 copy
@@ -304,7 +300,7 @@ pub fn put_copy(out: &mut [u8], o: usize, x: VariableNumber, y: VariableNumber) 
 {
     let target = bytes::slot_of(x);
     let from = bytes::slot_of(y);
-    byte_writers::put_three(out, o, 2, target, from)
+    put(out, o, [2, target, from])
 }
 
 // 3 difference, under the handler in force: its part is what a raise becomes there.
@@ -325,8 +321,8 @@ pub fn put_difference(
     let left = bytes::slot_of(y);
     let right = bytes::slot_of(z);
     let size = raise_size(u);
-    let a = byte_writers::put_four(out, o, 10, target, left, right);
-    let b = byte_writers::put_pair(out, a, size);
+    let a = put(out, o, [10, target, left, right]);
+    let b = put_pair(out, a, size);
     put_raise(out, b, base, u)
 }
 
@@ -337,5 +333,5 @@ pub fn put_return(out: &mut [u8], o: usize, x: VariableNumber) -> usize
     ensures { Wrote o (5 ∷ 0 ∷ (x.0 + 2) ∷ []) out.old result out.new }
 {
     let value = bytes::slot_of(x);
-    byte_writers::put_three(out, o, 5, 0, value)
+    put(out, o, [5, 0, value])
 }

@@ -7,19 +7,15 @@
 use case_fields::record::room;
 use case_io::input::{read_part, read_whole};
 use case_io::print::{bytes, numbered, refusal, say};
+use case_io::records::run_records;
 use casts::triple;
 use std::io;
 use std::io::{Read, Write};
-use translator::Translated;
 
 fn run_case<W: Write>(writer: &mut W, file: &[u8], out: &mut [u8]) -> io::Result<()> {
     match translator::translate(file, out) {
-        Translated::Written(n) => {
-            numbered(writer, b"written", n as u64)?;
-        }
-        Translated::Refused(r) => {
-            refusal(writer, r)?;
-        }
+        Ok(n) => numbered(writer, b"written", n as u64)?,
+        Err(r) => refusal(writer, r)?,
     }
     say(writer, b"\n")?;
     bytes(writer, out, true)?;
@@ -52,13 +48,11 @@ fn run_record<R: Read, W: Write>(
 }
 
 fn main(rt: HostRuntime) -> io::Result<()> {
-    let mut reader = rt.stdin();
-    let mut writer = rt.stdout();
     let mut outs = [0u8; 65536];
-    for _ in 0..100000 {
-        if !run_record(&mut reader, &mut writer, &mut outs)? {
-            break;
-        }
-    }
-    Ok(())
+    run_records(
+        &mut rt.stdin(),
+        &mut rt.stdout(),
+        100000,
+        |reader, writer| { run_record(reader, writer, &mut outs) },
+    )
 }

@@ -11,8 +11,6 @@ use Rattle.procedure_layout.specs.Rest.{rest_at}
 use Rattle.procedure_file.specs.Check.{program_of}
 use Rattle.procedure_file.specs.Places.{start_of, block_of, handler_of}
 use Rattle.procedure_file.specs.FileInvariant.{FileInvariant}
-use Rattle.procedure_file.specs.Loaded.{Loaded}
-use Rattle.procedure_file.proofs.LoadedLaws.{loaded_invariant}
 use Rattle.target_file.specs.Writing.{size, expr_bytes, target_bytes}
 use Rattle.translator_bytes.specs.declared.jumps.Under.{Under}
 use Rattle.translator_bytes.specs.Bytes.{zeros}
@@ -73,11 +71,8 @@ bytes_at_lem : (s : List ℕ) (base : ℕ) (F : Function) (h : ℕ) (b : Block) 
 unfolding bytes_at
 bytes_at_lem s base F h b at e = body_is base F (number (program_of s)) h b ∙ ap (body_bytes (number (program_of s)) base (under_of F h)) (sym e)
 
--- A loaded file.
-module _ {s starts : List ℕ} (L : Loaded s starts) where
-  pub known : FileInvariant s
-  known = loaded_invariant L
-
+-- An accepted file.
+module _ {s : List ℕ} (known : FileInvariant s) where
   module _ (f : ℕ) (there : f < length (program_of s)) where
     abbrev F : Function
     F = function_of (program_of s) f

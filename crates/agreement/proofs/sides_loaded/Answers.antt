@@ -1,5 +1,4 @@
-use Rattle.std.proofs.Common.{ℕ, List, ℤ}
-use native.Mathlib.Omega.{arith}
+use Rattle.std.proofs.Common.{ℕ, List, ℤ, arith}
 use mathlib.Core.Path.{sym}
 use lib.Seq.{length-take-le}
 use Rattle.agreement.specs.Sides.{Memory}
@@ -10,83 +9,110 @@ use Rattle.agreement.proofs.sides_loaded.Goals as goal
 abbrev lent : List ℤ → List ℕ → List ℤ → Memory
 lent frames room records = record { frames = frames; room = room; records = records }
 
-pub returns-in-Refused-clause-tells : goal.returns-in-Refused-clause-tells
-returns-in-Refused-clause-tells c =
-    (call_refused c.args.file.now c.args.f c.args.arguments.now c.args.depth c.args.budget (lent c.args.frames.now c.args.room.now c.args.records.now) c.call_judged.result
-    (judged_as c.args.arguments.now (lent c.args.frames.now c.args.room.now c.args.records.now) c.call_judged.result c.requires
-    c.functions_of-functions.ensures c.wanted_of-wanted.ensures c.translation_size-size.ensures c.call_judged.ensures) c.refused.result c.in-Refused.is c.refused.ensures).0
+pub returns-in-Err-clause-tells : goal.returns-in-Err-clause-tells
+returns-in-Err-clause-tells c =
+    let m = lent c.args.frames.now c.args.room.now c.args.records.now in
+    let t = c.table-table.ensures in
+    let J =
+    judged_as c.args.arguments.now m c.call_judged-judged.result t.laid t.accepted (rw t.value at c.functions-functions.ensures.count)
+    (rw t.value at c.wanted_of-wanted.ensures) c.translation_size-size.ensures c.call_judged-judged.ensures in
+    (call_refused c.args.file.now c.args.f c.args.arguments.now c.args.depth c.args.budget m c.call_judged-judged.result J c.refused.result c.in-Err.is c.refused.ensures).0
 
-pub returns-in-Refused-clause-memory : goal.returns-in-Refused-clause-memory
-returns-in-Refused-clause-memory c =
-    (call_refused c.args.file.now c.args.f c.args.arguments.now c.args.depth c.args.budget (lent c.args.frames.now c.args.room.now c.args.records.now) c.call_judged.result
-    (judged_as c.args.arguments.now (lent c.args.frames.now c.args.room.now c.args.records.now) c.call_judged.result c.requires
-    c.functions_of-functions.ensures c.wanted_of-wanted.ensures c.translation_size-size.ensures c.call_judged.ensures) c.refused.result c.in-Refused.is c.refused.ensures).1.0
+pub returns-in-Err-clause-memory : goal.returns-in-Err-clause-memory
+returns-in-Err-clause-memory c =
+    let m = lent c.args.frames.now c.args.room.now c.args.records.now in
+    let t = c.table-table.ensures in
+    let J =
+    judged_as c.args.arguments.now m c.call_judged-judged.result t.laid t.accepted (rw t.value at c.functions-functions.ensures.count)
+    (rw t.value at c.wanted_of-wanted.ensures) c.translation_size-size.ensures c.call_judged-judged.ensures in
+    (call_refused c.args.file.now c.args.f c.args.arguments.now c.args.depth c.args.budget m c.call_judged-judged.result J c.refused.result c.in-Err.is c.refused.ensures).1.0
 
-pub returns-in-Refused-clause-answer : goal.returns-in-Refused-clause-answer
-returns-in-Refused-clause-answer c =
-    (call_refused c.args.file.now c.args.f c.args.arguments.now c.args.depth c.args.budget (lent c.args.frames.now c.args.room.now c.args.records.now) c.call_judged.result
-    (judged_as c.args.arguments.now (lent c.args.frames.now c.args.room.now c.args.records.now) c.call_judged.result c.requires
-    c.functions_of-functions.ensures c.wanted_of-wanted.ensures c.translation_size-size.ensures c.call_judged.ensures) c.refused.result c.in-Refused.is c.refused.ensures).1.1
+pub returns-in-Err-clause-answer : goal.returns-in-Err-clause-answer
+returns-in-Err-clause-answer c =
+    let m = lent c.args.frames.now c.args.room.now c.args.records.now in
+    let t = c.table-table.ensures in
+    let J =
+    judged_as c.args.arguments.now m c.call_judged-judged.result t.laid t.accepted (rw t.value at c.functions-functions.ensures.count)
+    (rw t.value at c.wanted_of-wanted.ensures) c.translation_size-size.ensures c.call_judged-judged.ensures in
+    (call_refused c.args.file.now c.args.f c.args.arguments.now c.args.depth c.args.budget m c.call_judged-judged.result J c.refused.result c.in-Err.is c.refused.ensures).1.1
 
-pub entry_number-g-requires-clause-f_in_bounds : goal.entry_number-g-requires-clause-f_in_bounds
-entry_number-g-requires-clause-f_in_bounds c =
-    omega (
-      arith,
-      (call_fits c.args.file.now c.args.f c.args.arguments.now c.args.depth c.args.budget (lent c.args.frames.now c.args.room.now c.args.records.now) c.call_judged.result (judged_as c.args.arguments.now (lent c.args.frames.now c.args.room.now c.args.records.now) c.call_judged.result c.requires
-          c.functions_of-functions.ensures c.wanted_of-wanted.ensures c.translation_size-size.ensures c.call_judged.ensures) c.in-Accepted.is).function,
-    )
+pub entry_number-g-requires : goal.entry_number-g-requires
+entry_number-g-requires c =
+    let m = lent c.args.frames.now c.args.room.now c.args.records.now in
+    let t = c.table-table.ensures in
+    let J =
+    judged_as c.args.arguments.now m c.call_judged-judged.result t.laid t.accepted (rw t.value at c.functions-functions.ensures.count)
+    (rw t.value at c.wanted_of-wanted.ensures) c.translation_size-size.ensures c.call_judged-judged.ensures in
+    record { f_in_bounds = rw t.value (call_fits c.args.file.now c.args.f c.args.arguments.now c.args.depth c.args.budget m c.call_judged-judged.result J c.in_default.is).function }
 
-pub put_file-requires-clause-room : goal.put_file-requires-clause-room
-put_file-requires-clause-room c =
-    translation_room c.args.file.now c.args.f c.args.arguments.now c.args.depth c.args.budget (lent c.args.frames.now c.args.room.now c.args.records.now)
-    c.call_judged.result (judged_as c.args.arguments.now (lent c.args.frames.now c.args.room.now c.args.records.now) c.call_judged.result c.requires
-    c.functions_of-functions.ensures c.wanted_of-wanted.ensures c.translation_size-size.ensures c.call_judged.ensures) c.in-Accepted.is
+pub put_file-requires : goal.put_file-requires
+put_file-requires c =
+    let m = lent c.args.frames.now c.args.room.now c.args.records.now in
+    let t = c.table-table.ensures in
+    let J =
+    judged_as c.args.arguments.now m c.call_judged-judged.result t.laid t.accepted (rw t.value at c.functions-functions.ensures.count)
+    (rw t.value at c.wanted_of-wanted.ensures) c.translation_size-size.ensures c.call_judged-judged.ensures in
+    record { room = translation_room c.args.file.now c.args.f c.args.arguments.now c.args.depth c.args.budget m c.call_judged-judged.result J c.in_default.is }
 
 pub slice_bounds-run_both-end : goal.slice_bounds-run_both-end
 slice_bounds-run_both-end c =
-    size_there c.args.file.now c.args.f c.args.arguments.now c.args.depth c.args.budget (lent c.args.frames.now c.args.room.now c.args.records.now)
-    c.call_judged.result (judged_as c.args.arguments.now (lent c.args.frames.now c.args.room.now c.args.records.now) c.call_judged.result c.requires
-    c.functions_of-functions.ensures c.wanted_of-wanted.ensures c.translation_size-size.ensures c.call_judged.ensures) c.in-Accepted.is c.put_file.ensures
-    c.translation_size-size.ensures
+    let m = lent c.args.frames.now c.args.room.now c.args.records.now in
+    let t = c.table-table.ensures in
+    let J =
+    judged_as c.args.arguments.now m c.call_judged-judged.result t.laid t.accepted (rw t.value at c.functions-functions.ensures.count)
+    (rw t.value at c.wanted_of-wanted.ensures) c.translation_size-size.ensures c.call_judged-judged.ensures in
+    size_there c.args.file.now c.args.f c.args.arguments.now c.args.depth c.args.budget m c.call_judged-judged.result J c.in_default.is c.put_file.ensures c.translation_size-size.ensures
 
 pub slice_bounds-run_both-end-2 : goal.slice_bounds-run_both-end-2
 slice_bounds-run_both-end-2 c =
-    sym (length-take-le _ _ (size_there c.args.file.now c.args.f c.args.arguments.now c.args.depth c.args.budget (lent c.args.frames.now c.args.room.now c.args.records.now)
-    c.call_judged.result (judged_as c.args.arguments.now (lent c.args.frames.now c.args.room.now c.args.records.now) c.call_judged.result c.requires
-    c.functions_of-functions.ensures c.wanted_of-wanted.ensures c.translation_size-size.ensures c.call_judged.ensures) c.in-Accepted.is c.put_file.ensures
-    c.translation_size-size.ensures))
+    let m = lent c.args.frames.now c.args.room.now c.args.records.now in
+    let t = c.table-table.ensures in
+    let J =
+    judged_as c.args.arguments.now m c.call_judged-judged.result t.laid t.accepted (rw t.value at c.functions-functions.ensures.count)
+    (rw t.value at c.wanted_of-wanted.ensures) c.translation_size-size.ensures c.call_judged-judged.ensures in
+    sym (length-take-le _ _ (size_there c.args.file.now c.args.f c.args.arguments.now c.args.depth c.args.budget m c.call_judged-judged.result J c.in_default.is c.put_file.ensures c.translation_size-size.ensures))
 
 pub run_both-requires-clause-call_fits : goal.run_both-requires-clause-call_fits
 run_both-requires-clause-call_fits c =
-    (call_fits c.args.file.now c.args.f c.args.arguments.now c.args.depth c.args.budget (lent c.args.frames.now c.args.room.now c.args.records.now) c.call_judged.result (judged_as c.args.arguments.now (lent c.args.frames.now c.args.room.now c.args.records.now) c.call_judged.result c.requires
-    c.functions_of-functions.ensures c.wanted_of-wanted.ensures c.translation_size-size.ensures c.call_judged.ensures) c.in-Accepted.is)
+    let m = lent c.args.frames.now c.args.room.now c.args.records.now in
+    let t = c.table-table.ensures in
+    let J =
+    judged_as c.args.arguments.now m c.call_judged-judged.result t.laid t.accepted (rw t.value at c.functions-functions.ensures.count)
+    (rw t.value at c.wanted_of-wanted.ensures) c.translation_size-size.ensures c.call_judged-judged.ensures in
+    call_fits c.args.file.now c.args.f c.args.arguments.now c.args.depth c.args.budget m c.call_judged-judged.result J c.in_default.is
 
 pub run_both-requires-clause-target_value : goal.run_both-requires-clause-target_value
-run_both-requires-clause-target_value c = (
-  front_is c.args.file.now c.args.f c.args.arguments.now c.args.depth c.args.budget (lent c.args.frames.now c.args.room.now c.args.records.now)
-      c.call_judged.result (judged_as c.args.arguments.now (lent c.args.frames.now c.args.room.now c.args.records.now) c.call_judged.result c.requires
-      c.functions_of-functions.ensures c.wanted_of-wanted.ensures c.translation_size-size.ensures c.call_judged.ensures) c.in-Accepted.is c.put_file.ensures
-      c.translation_size-size.ensures,
-  c.entry_number-g.ensures,
-)
+run_both-requires-clause-target_value c =
+    let m = lent c.args.frames.now c.args.room.now c.args.records.now in
+    let t = c.table-table.ensures in
+    let J =
+    judged_as c.args.arguments.now m c.call_judged-judged.result t.laid t.accepted (rw t.value at c.functions-functions.ensures.count)
+    (rw t.value at c.wanted_of-wanted.ensures) c.translation_size-size.ensures c.call_judged-judged.ensures in
+    (front_is c.args.file.now c.args.f c.args.arguments.now c.args.depth c.args.budget m c.call_judged-judged.result J c.in_default.is c.put_file.ensures c.translation_size-size.ensures, rw t.value at c.entry_number-g.ensures)
 
 pub returns-clause-tells : goal.returns-clause-tells
 returns-clause-tells c =
-    (call_ran c.args.file.now c.args.f c.args.arguments.now c.args.depth c.args.budget (lent c.args.frames.now c.args.room.now c.args.records.now)
-    c.call_judged.result (judged_as c.args.arguments.now (lent c.args.frames.now c.args.room.now c.args.records.now) c.call_judged.result c.requires
-    c.functions_of-functions.ensures c.wanted_of-wanted.ensures c.translation_size-size.ensures c.call_judged.ensures) c.in-Accepted.is c.put_file.ensures
-    c.translation_size-size.ensures c.run_both.result c.run_both.ensures).0
+    let m = lent c.args.frames.now c.args.room.now c.args.records.now in
+    let t = c.table-table.ensures in
+    let J =
+    judged_as c.args.arguments.now m c.call_judged-judged.result t.laid t.accepted (rw t.value at c.functions-functions.ensures.count)
+    (rw t.value at c.wanted_of-wanted.ensures) c.translation_size-size.ensures c.call_judged-judged.ensures in
+    (call_ran c.args.file.now c.args.f c.args.arguments.now c.args.depth c.args.budget m c.call_judged-judged.result J c.in_default.is c.put_file.ensures c.translation_size-size.ensures c.run_both.result c.run_both.ensures).0
 
 pub returns-clause-memory : goal.returns-clause-memory
 returns-clause-memory c =
-    (call_ran c.args.file.now c.args.f c.args.arguments.now c.args.depth c.args.budget (lent c.args.frames.now c.args.room.now c.args.records.now)
-    c.call_judged.result (judged_as c.args.arguments.now (lent c.args.frames.now c.args.room.now c.args.records.now) c.call_judged.result c.requires
-    c.functions_of-functions.ensures c.wanted_of-wanted.ensures c.translation_size-size.ensures c.call_judged.ensures) c.in-Accepted.is c.put_file.ensures
-    c.translation_size-size.ensures c.run_both.result c.run_both.ensures).1.0
+    let m = lent c.args.frames.now c.args.room.now c.args.records.now in
+    let t = c.table-table.ensures in
+    let J =
+    judged_as c.args.arguments.now m c.call_judged-judged.result t.laid t.accepted (rw t.value at c.functions-functions.ensures.count)
+    (rw t.value at c.wanted_of-wanted.ensures) c.translation_size-size.ensures c.call_judged-judged.ensures in
+    (call_ran c.args.file.now c.args.f c.args.arguments.now c.args.depth c.args.budget m c.call_judged-judged.result J c.in_default.is c.put_file.ensures c.translation_size-size.ensures c.run_both.result c.run_both.ensures).1.0
 
 pub returns-clause-answer : goal.returns-clause-answer
 returns-clause-answer c =
-    (call_ran c.args.file.now c.args.f c.args.arguments.now c.args.depth c.args.budget (lent c.args.frames.now c.args.room.now c.args.records.now)
-    c.call_judged.result (judged_as c.args.arguments.now (lent c.args.frames.now c.args.room.now c.args.records.now) c.call_judged.result c.requires
-    c.functions_of-functions.ensures c.wanted_of-wanted.ensures c.translation_size-size.ensures c.call_judged.ensures) c.in-Accepted.is c.put_file.ensures
-    c.translation_size-size.ensures c.run_both.result c.run_both.ensures).1.1
+    let m = lent c.args.frames.now c.args.room.now c.args.records.now in
+    let t = c.table-table.ensures in
+    let J =
+    judged_as c.args.arguments.now m c.call_judged-judged.result t.laid t.accepted (rw t.value at c.functions-functions.ensures.count)
+    (rw t.value at c.wanted_of-wanted.ensures) c.translation_size-size.ensures c.call_judged-judged.ensures in
+    (call_ran c.args.file.now c.args.f c.args.arguments.now c.args.depth c.args.budget m c.call_judged-judged.result J c.in_default.is c.put_file.ensures c.translation_size-size.ensures c.run_both.result c.run_both.ensures).1.1

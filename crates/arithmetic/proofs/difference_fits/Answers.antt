@@ -1,9 +1,12 @@
-use mathlib.Core.Path.{◌∙◌}
-use Rattle.arithmetic.specs.WrapLaws.{handed, in_range_by}
+use Rattle.std.proofs.Common.{◌-ℤ◌, ◌∙◌, ap₂, ap, to_z, of_z, ℤ, Option, SFits, subst}
+use Rattle.std.proofs.Math.Facts.{to_z-of_z}
+use Rattle.std.specs.Int.{w32}
+use Rattle.std.specs.Option.{SomeIff}
+use Rattle.semantics.specs.Value.{in_range}
+use Rattle.arithmetic.specs.WrapLaws.{some_in_range}
 use Rattle.arithmetic.proofs.difference_fits.Goals as goal
 
-pub returns-then-d-geminus2147483648 : goal.returns-then-d-geminus2147483648
-returns-then-d-geminus2147483648 c = in_range_by (handed c.args.y c.args.z c.ranges.y c.ranges.z) c.if-d-geminus2147483648.true
-
-pub returns-else-d-geminus2147483648 : goal.returns-else-d-geminus2147483648
-returns-else-d-geminus2147483648 c = c.if-d-geminus2147483648.false ∙ in_range_by (handed c.args.y c.args.z c.ranges.y c.ranges.z) c.if-d-geminus2147483648.false
+pub returns : goal.returns
+returns c =
+    let a = c.args in
+    c.is_some.ensures ∙ some_in_range _ c.checked_sub.result c.checked_sub.ensures ∙ ap in_range (ap₂ (λ (y z : ℤ). y -ℤ z) (to_z-of_z c.ranges.y) (to_z-of_z c.ranges.z))

@@ -1,12 +1,10 @@
-use mathlib.Core.Path.{ap, ◌∙◌}
-use mir.Facts.{to_z-of_z}
-use mir.Syntax.{w32}
-use Rattle.semantics.specs.Value.{wrapped, minus}
-use Rattle.arithmetic.specs.WrapLaws.{handed}
+use Rattle.std.proofs.Common.{◌-ℤ◌, ◌∙◌}
+use Rattle.std.proofs.lemmas.Int.{wrapping_sub_is}
+use Rattle.std.specs.Int.{w32}
+use Rattle.semantics.specs.Value.{minus}
+use Rattle.arithmetic.specs.WrapLaws.{wrap_same}
 use Rattle.arithmetic.proofs.wrapped_difference.Goals as goal
 
 pub returns : goal.returns
 unfolding minus
-returns c =
-    to_z-of_z {w = w32} (record { sfits = c.narrowed.type_inv })
-    ∙ (c.narrowed.ensures ∙ ap wrapped (handed c.args.y c.args.z c.ranges.y c.ranges.z))
+returns c = let a = c.args in wrapping_sub_is w32 a.y a.z c.ranges.y c.ranges.z ∙ wrap_same (a.y -ℤ a.z)

@@ -1,8 +1,7 @@
-use Rattle.decimal.specs.DecimalLaws.{wrote_as, wrote_then, signed_minus, signed_plus}
+use Rattle.decimal.specs.DecimalLaws.{sign_of, wrote_as, wrote_then, signed_minus, signed_plus}
 use mathlib.Core.Path.{ap, ◌∙◌}
 use lib.IntN.{nat_abs}
 use mir.Facts.{to_z-of_z}
-use Rattle.decimal.specs.SizeLaws.{sign_of}
 use Rattle.decimal.proofs.put_signed.Goals as goal
 
 pub returns-then-v-lt0 : goal.returns-then-v-lt0

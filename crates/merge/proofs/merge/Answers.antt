@@ -1,27 +1,30 @@
+use Rattle.std.proofs.lemmas.Result.{err_from_is_err_and}
 use Rattle.runs.proofs.OutputLaws.{answer_refused, answer_accepted}
 use Rattle.merge.specs.Merged.{merged_of, merge_verdict, answer_of, output_of}
 use Rattle.merge.proofs.merge.Goals as goal
 
-pub returns-in-Refused : goal.returns-in-Refused
+pub returns-in_err-load : goal.returns-in_err-load
 unfolding answer_of output_of merge_verdict
-returns-in-Refused c =
-    let A = answer_refused (merged_of c.args.first.now c.args.second.now) c.args.out.now c.load.ensures.0 _ c.in-Refused.is in
-    (A.answer, A.output)
+returns-in_err-load c =
+    let p = err_from_is_err_and c.from_residual.result c.from_residual.ensures.1 in
+    let A = answer_refused (merged_of c.args.first.now c.args.second.now) c.args.out.now c.load.ensures.0 _ c.in_err-load.was in
+    rw (p.1, p.2) (A.answer, A.output)
 
-pub returns-in-Refused-load : goal.returns-in-Refused-load
+pub returns-in_err-load-2 : goal.returns-in_err-load-2
 unfolding answer_of output_of merge_verdict
-returns-in-Refused-load c =
+returns-in_err-load-2 c =
     let w = merged_of c.args.first.now c.args.second.now in
     let d = c.args.out.now in
-    let A = answer_accepted w d c.load.ensures.0 _ c.in-Accepted.is (answer_refused w d c.load-2.ensures.0 _ c.in-Refused-load.is) in
-    (A.answer, A.output)
+    let p = err_from_is_err_and c.from_residual-in_err-load-2.result c.from_residual-in_err-load-2.ensures.1 in
+    let A = answer_accepted w d c.load.ensures.0 _ c.in_ok-load.was (answer_refused w d c.load-2.ensures.0 _ c.in_err-load-2.was) in
+    rw (p.1, p.2) (A.answer, A.output)
 
-pub returns-in-Accepted-load : goal.returns-in-Accepted-load
+pub returns : goal.returns
 unfolding answer_of output_of merge_verdict
-returns-in-Accepted-load c =
+returns c =
     let w = merged_of c.args.first.now c.args.second.now in
     let d = c.args.out.now in
-    let A = answer_accepted w d c.load.ensures.0 _ c.in-Accepted.is
-    (answer_accepted w d c.load-2.ensures.0 _ c.in-Accepted-load.is
-    (record { answer = c.merge_loaded.ensures.0; output = c.merge_loaded.ensures.1 })) in
+    let A = answer_accepted w d c.load.ensures.0 _ c.in_ok-load.was
+    (answer_accepted w d c.load-2.ensures.0 _ c.in_ok-load-2.was
+    (record { answer = rw (c.new-kept.ensures, c.new-added.ensures) at c.merge_loaded.ensures.0; output = rw (c.new-kept.ensures, c.new-added.ensures) at c.merge_loaded.ensures.1 })) in
     (A.answer, A.output)

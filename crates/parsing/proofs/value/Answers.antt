@@ -1,17 +1,12 @@
-use Prim.Native.Nat.{◌+◌, ◌*◌}
-use Rattle.parsing.specs.ValueLaws.{value_high, value_fits}
+use Rattle.std.proofs.Common.{◌≡◌, ◌+◌, ◌*◌, ◌∙◌, ap, to_z, arith}
+use Rattle.std.proofs.Math.Facts.{to_z-of_z}
+use Rattle.std.specs.Int.{w32}
 use Rattle.parsing.specs.Fields.{value_of}
-use mir.Facts.{to_z-of_z}
-use mathlib.Core.Path.{◌∙◌}
-use native.Mathlib.Omega.{arith}
-use borrow.Author.Rules.{rules}
 use Rattle.parsing.proofs.value.Goals as goal
 
-pub returns-then-high-lt128 : goal.returns-then-high-lt128
+pub returns : goal.returns
 unfolding value_of
-returns-then-high-lt128 c = search rules
-
-pub returns-else-high-lt128 : goal.returns-else-high-lt128
-unfolding value_of
-returns-else-high-lt128 c = let a = c.args in to_z-of_z (value_fits (a.b0 + 256 * a.b1 + 65536 * a.b2) a.b3 (omega arith) (omega arith) (omega arith)) ∙ value_high
-    (a.b0 + 256 * a.b1 + 65536 * a.b2) a.b3 (omega arith) (omega arith) (omega arith)
+returns c =
+    let a = c.args in
+    let order : a.b0 + a.b1 * 256 + a.b2 * 65536 + a.b3 * 16777216 ≡ a.b0 + 256 * a.b1 + 65536 * a.b2 + 16777216 * a.b3 = omega arith in
+    to_z-of_z {w = w32} (record { sfits = c.from_le_bytes.type_inv }) ∙ c.from_le_bytes.ensures ∙ ap (to_z w32) order

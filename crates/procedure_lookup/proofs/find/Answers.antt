@@ -10,22 +10,22 @@ positive h = omega arith
 
 pub returns-then-l-eq0 : goal.returns-then-l-eq0
 returns-then-l-eq0 c =
-    find_entry c.args.file.now c.requires.laid c.args.f c.args.l (omega (arith, c.functions_of-count.ensures, c.if-count-f.false))
-    (omega (arith, c.if-labels-l.false, c.byte_number-labels.ensures.0, c.labels_of.ensures)) _ _
-    c.start_of-start.ensures c.block_past-to.ensures c.if-l-eq0.true
+    find_entry c.args.file.now c.bytes-bytes.ensures.laid c.args.f c.args.l (omega (arith, c.functions-count.ensures.count, c.if-count-f.false))
+    (omega (arith, c.if-labels-l.false, c.from-labels.ensures, c.labels_of.ensures)) _ _
+    c.start_of-start.ensures (rw c.bytes-bytes.ensures.value at c.block_past-to.ensures) c.if-l-eq0.true
 
 pub overflow_sub-from : goal.overflow_sub-from
 overflow_sub-from c =
     let start = c.start_of-start.result in
     let before = c.bytes_before-before.result in
     let room : before ≤ start =
-    before_room c.args.file.now c.requires.laid c.args.f (omega (arith, c.functions_of-count.ensures, c.if-count-f.false)) c.args.l start before
-    (positive c.if-l-eq0.false) (omega (arith, c.if-labels-l.false, c.byte_number-labels.ensures.0, c.labels_of.ensures))
-    c.start_of-start.ensures c.bytes_before-before.ensures in
+    before_room c.args.file.now c.bytes-bytes.ensures.laid c.args.f (omega (arith, c.functions-count.ensures.count, c.if-count-f.false)) c.args.l start before
+    (positive c.if-l-eq0.false) (omega (arith, c.if-labels-l.false, c.from-labels.ensures, c.labels_of.ensures))
+    c.start_of-start.ensures (rw c.bytes-bytes.ensures.value at c.bytes_before-before.ensures) in
     omega arith
 
 pub returns : goal.returns
 returns c =
-    find_labelled c.args.file.now c.requires.laid c.args.f c.args.l (omega (arith, c.functions_of-count.ensures, c.if-count-f.false))
-    (omega (arith, c.if-labels-l.false, c.byte_number-labels.ensures.0, c.labels_of.ensures)) _ _
-    c.start_of-start.ensures c.block_past-to.ensures _ c.bytes_before-before.ensures c.if-l-eq0.false
+    find_labelled c.args.file.now c.bytes-bytes.ensures.laid c.args.f c.args.l (omega (arith, c.functions-count.ensures.count, c.if-count-f.false))
+    (omega (arith, c.if-labels-l.false, c.from-labels.ensures, c.labels_of.ensures)) _ _
+    c.start_of-start.ensures (rw c.bytes-bytes.ensures.value at c.block_past-to.ensures) _ (rw c.bytes-bytes.ensures.value at c.bytes_before-before.ensures) c.if-l-eq0.false

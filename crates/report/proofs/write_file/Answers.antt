@@ -1,22 +1,22 @@
 use Rattle.report.specs.ReportLaws.{head_refused, file_refused, file_loaded, wrote_as}
 use Rattle.report.proofs.write_file.Goals as goal
 
-pub returns-in-Stopped : goal.returns-in-Stopped
-returns-in-Stopped c =
+pub returns-in-Err : goal.returns-in-Err
+returns-in-Err c =
     wrote_as
-    (head_refused c.args.file.now c.args.arguments.now c.args.depth c.args.budget c.head_end.ensures c.in-Stopped.is)
+    (head_refused c.args.file.now c.args.arguments.now c.args.depth c.args.budget c.head_end.ensures c.in-Err.is)
     c.write_refusal.ensures
 
-pub returns-in-Refused : goal.returns-in-Refused
-returns-in-Refused c =
+pub returns-in-Err-load : goal.returns-in-Err-load
+returns-in-Err-load c =
     wrote_as
     (file_refused c.args.file.now c.args.arguments.now c.args.depth c.args.budget c.head_end.ensures
-    c.in-Past.is c.load.ensures.0 c.in-Refused.is)
-    c.write_refusal-in-Refused.ensures
+    c.in_default.is c.load.ensures.0 c.in-Err-load.is)
+    c.write_refusal-in-Err-load.ensures
 
-pub returns-in-Accepted : goal.returns-in-Accepted
-returns-in-Accepted c =
+pub returns : goal.returns
+returns c =
     wrote_as
     (file_loaded c.args.file.now c.args.arguments.now c.args.depth c.args.budget c.head_end.ensures
-    c.in-Past.is c.load.ensures.0 c.in-Accepted.is)
-    c.write_loaded.ensures
+    c.in_default.is c.load.ensures.0 c.in_default-load.is)
+    (rw c.new-loaded.ensures at c.write_loaded.ensures)

@@ -1,4 +1,4 @@
-use Rattle.translator.specs.FileLaws.{functions_bound, functions_start, functions_next, functions_end}
+use Rattle.translator.specs.FileLaws.{functions_start, functions_next, functions_end}
 use native.Mathlib.Omega.{arith}
 use Rattle.translator.proofs.translation_size.Goals as goal
 
@@ -10,15 +10,14 @@ overflow_add-n c =
     omega (
       arith,
       c.loop-f.invariant.size_bound,
-      c.function_size-size.ensures.1,
-      c.loop-f-test.true,
-      c.functions_of-count.ensures,
-      functions_bound c.args.file.now c.requires.tabled.laid,
+      c.function_size-n.ensures.1,
+      c.table.ensures.right.most,
+      rw (c.table.ensures.value) at c.functions-f-end.ensures.count,
     )
 
 pub loop-f-preserved : goal.loop-f-preserved
 loop-f-preserved c =
-    functions_next c.loop-f.invariant (omega (arith, c.loop-f-test.true, c.functions_of-count.ensures)) c.function_size-size.ensures.0 c.function_size-size.ensures.1
+    functions_next c.loop-f.invariant (omega (arith, rw (c.table.ensures.value) at c.functions-f-end.ensures.count)) c.function_size-n.ensures.0 c.function_size-n.ensures.1
 
 pub returns : goal.returns
-returns c = functions_end c.loop-f.invariant (omega (arith, c.loop-f-test.false, c.functions_of-count.ensures))
+returns c = functions_end c.loop-f.invariant (omega (arith, rw (c.table.ensures.value) at c.functions-f-end.ensures.count))

@@ -4,11 +4,11 @@ use Rattle.translator_sizes.proofs.call_size.Goals as goal
 
 pub returns-then-u-eq0 : goal.returns-then-u-eq0
 returns-then-u-eq0 c =
-    (plain_sum c.args.u c.args.n c.if-u-eq0.true c.jump_size-inner.ensures, omega (arith, c.jump_size-inner.ensures, c.requires.1))
+    (plain_sum c.args.u c.args.n c.if-u-eq0.true (omega arith), omega (arith, c.jump_size-inner.ensures, c.requires.1))
 
 pub returns-else-u-eq0 : goal.returns-else-u-eq0
 returns-else-u-eq0 c = (
-  guarded_sum c.args.u c.args.n c.if-u-eq0.false c.jump_size-inner.ensures c.jump_size-other.ensures c.size_if_any-number.ensures.0,
+  guarded_sum c.args.u c.args.n c.if-u-eq0.false (omega arith) (omega arith) c.size_if_any-number.ensures.0,
   omega (
     arith,
     c.jump_size-inner.ensures,

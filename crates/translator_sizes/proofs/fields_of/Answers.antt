@@ -1,6 +1,5 @@
 use Rattle.procedure_file.specs.Check.{program_of}
-use Rattle.procedure_file.proofs.TableLaws.{params_bound_lem, locals_bound_lem}
-use Rattle.translator_sizes.specs.PartLaws.{known, entry_fields, label_fields}
+use Rattle.translator_sizes.specs.PartLaws.{entry_fields, label_fields}
 use Rattle.translator_sizes.specs.UnderLaws.{handler_named}
 use mathlib.Core.Path.{refl}
 use native.Mathlib.Omega.{arith}
@@ -8,21 +7,31 @@ use Rattle.translator_sizes.proofs.fields_of.Goals as goal
 
 pub overflow_add-v : goal.overflow_add-v
 overflow_add-v c =
-    omega (
-      arith,
-      c.locals_of-others.ensures,
-      c.params_of-own.ensures,
-      params_bound_lem c.args.file.now c.requires.loaded.tabled.laid c.args.f c.requires.f_in_bounds.0,
-      locals_bound_lem c.args.file.now c.requires.loaded.tabled.laid c.args.f c.requires.f_in_bounds.0,
-    )
+    let counts = c.table-table.ensures.right.counts c.args.f c.requires.f_in_bounds.0 in
+    omega (arith, rw (c.table-table.ensures.value) at c.params_of-own.ensures, rw (c.table-table.ensures.value) at c.locals_of-others.ensures, counts.params, counts.locals)
 
 pub returns-then-l-eq0 : goal.returns-then-l-eq0
 returns-then-l-eq0 c =
-    entry_fields (program_of c.args.file.now) c.args.f c.args.l _ _ _ _ _ c.params_of-own.ensures c.locals_of-others.ensures refl c.start_of-start.ensures c.if-l-eq0.true c.under_of-under.ensures
+    let e = c.table-table.ensures.value in
+    entry_fields (program_of c.args.file.now) c.args.f c.args.l _ _ _ _ _ (rw (e) at c.params_of-own.ensures) (rw (e) at c.locals_of-others.ensures) refl
+    (rw (e) at c.start_of-start.ensures) c.if-l-eq0.true c.under_of-under.ensures
 
-pub under_of-under-requires-2-clause-f_in_bounds : goal.under_of-under-requires-2-clause-f_in_bounds
-under_of-under-requires-2-clause-f_in_bounds c = (c.requires.f_in_bounds.0, omega (arith, c.handler_of-h.ensures, handler_named (known c.requires.loaded) c.args.f c.requires.f_in_bounds.0 c.args.l c.requires.f_in_bounds.1), omega (arith, c.params_of-own.ensures, c.locals_of-others.ensures))
+pub under_of-under-requires-2 : goal.under_of-under-requires-2
+under_of-under-requires-2 c =
+    let e = c.table-table.ensures.value in
+    let h = rw (e) at c.handler_of-h.ensures in
+    let p = rw (e) at c.params_of-own.ensures in
+    let q = rw (e) at c.locals_of-others.ensures in
+    record {
+      f_in_bounds = (
+        c.requires.f_in_bounds.0,
+        omega (arith, h, handler_named c.table-table.ensures.right c.args.f c.requires.f_in_bounds.0 c.args.l c.requires.f_in_bounds.1),
+        omega (arith, p, q),
+      );
+    }
 
 pub returns : goal.returns
 returns c =
-    label_fields (program_of c.args.file.now) c.args.f c.args.l _ _ _ _ _ c.params_of-own.ensures c.locals_of-others.ensures refl c.start_of-start.ensures c.if-l-eq0.false c.handler_of-h.ensures c.under_of-under-2.ensures
+    let e = c.table-table.ensures.value in
+    label_fields (program_of c.args.file.now) c.args.f c.args.l _ _ _ _ _ (rw (e) at c.params_of-own.ensures) (rw (e) at c.locals_of-others.ensures) refl
+    (rw (e) at c.start_of-start.ensures) c.if-l-eq0.false (rw (e) at c.handler_of-h.ensures) c.under_of-under-2.ensures

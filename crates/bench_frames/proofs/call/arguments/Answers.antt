@@ -1,6 +1,5 @@
-use borrow.Author.Rules.{rules}
-use mir.Facts.{to_z-of_z}
-use mir.Syntax.{w32}
+use Rattle.std.proofs.Common.{rules, to_z-of_z}
+use Rattle.std.specs.Int.{w32}
 use Rattle.bench_frames.specs.CallLaws.{argument_is, read_none, read_more}
 use Rattle.bench_frames.proofs.call.arguments.Goals as goal
 

@@ -1,9 +1,8 @@
-use mir.Facts.{to_z-of_z}
-use mir.Syntax.{w32}
+use Rattle.std.proofs.Common.{rules, to_z-of_z}
+use Rattle.std.specs.Int.{w32}
 use Rattle.bench_step.specs.StepLaws.{value_raises}
-use borrow.Author.Rules.{rules}
 use Rattle.bench_step.proofs.step.raised_value.Goals as goal
 
 pub returns : goal.returns
 returns c =
-    value_raises c.requires.file_invariant c.requires.standing c.requires.at_value c.index-y.ensures (to_z-of_z {w = w32} (search rules))
+    value_raises c.bytes.ensures.right c.requires.standing c.requires.at_value c.index.ensures (to_z-of_z {w = w32} (search rules))

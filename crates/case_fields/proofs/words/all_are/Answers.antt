@@ -10,20 +10,20 @@ use Rattle.case_fields.specs.Words.{every}
 use Rattle.case_fields.specs.WordLaws.{other_word, same_word, no_word}
 use Rattle.case_fields.proofs.words.all_are.Goals as goal
 
-pub returns-then-words-i : goal.returns-then-words-i
-returns-then-words-i c =
-    let l = c.loop-i in
+pub returns-then-w-x : goal.returns-then-w-x
+returns-then-w-x c =
+    let l = c.loop-w in
     let e = to_z-of_z {w = w32} c.ranges.x in
-    let n = c.if-words-i.true in
-    other_word (to_z w32 (of_z w32 c.args.x)) c.args.words.now l.i l.invariant (omega arith) (λ q. n (ap (of_z w32) (q ∙ e))) ∙ ap (λ (z : ℤ). every z c.args.words.now) e
+    let n = c.if-w-x.true in
+    other_word (to_z w32 (of_z w32 c.args.x)) c.args.words.now l.w-index l.invariant (omega arith) (λ q. n (ap (of_z w32) (q ∙ e))) ∙ ap (λ (z : ℤ). every z c.args.words.now) e
 
-pub loop-i-preserved : goal.loop-i-preserved
-loop-i-preserved c =
-    let l = c.loop-i in
-    let f : SFits w32 (get_or c.args.words.now l.i (pos 0)) = search rules in
-    same_word (to_z w32 (of_z w32 c.args.x)) c.args.words.now l.i l.invariant (omega arith) (sym (to_z-of_z {w = w32} f) ∙ ap (to_z w32) c.if-words-i.false)
+pub loop-w-preserved : goal.loop-w-preserved
+loop-w-preserved c =
+    let l = c.loop-w in
+    let f : SFits w32 (get_or c.args.words.now l.w-index (pos 0)) = search rules in
+    same_word (to_z w32 (of_z w32 c.args.x)) c.args.words.now l.w-index l.invariant (omega arith) (sym (to_z-of_z {w = w32} f) ∙ ap (to_z w32) c.if-w-x.false)
 
 pub returns : goal.returns
 returns c =
-    let l = c.loop-i in
-    no_word (to_z w32 (of_z w32 c.args.x)) c.args.words.now l.i l.invariant (omega arith) ∙ ap (λ (z : ℤ). every z c.args.words.now) (to_z-of_z {w = w32} c.ranges.x)
+    let l = c.loop-w in
+    no_word (to_z w32 (of_z w32 c.args.x)) c.args.words.now l.w-index l.invariant (omega arith) ∙ ap (λ (z : ℤ). every z c.args.words.now) (to_z-of_z {w = w32} c.ranges.x)

@@ -30,7 +30,7 @@ put_label-place-requires-clause-room c = let s = c.args.file.now in
     let f = c.args.f in
     let l = c.loop-l.l in
     let n = c.args.count in
-    let below : l < length (function_of (program_of s) f).blocks = omega (arith, c.loop-l-test.true, c.byte_number-last.ensures.0, c.labels_of.ensures) in room_front (label_bytes s f (l + 1) n) (labels_from s f (l + 1) n) (rest_as c.loop-l.invariant _ (labels_more s f l n below))
+    let below : l < length (function_of (program_of s) f).blocks = omega (arith, rw (c.table.ensures.value) at c.labels_of.ensures) in room_front (label_bytes s f (l + 1) n) (labels_from s f (l + 1) n) (rest_as c.loop-l.invariant _ (labels_more s f l n below))
 
 pub loop-l-preserved : goal.loop-l-preserved
 loop-l-preserved c =
@@ -39,7 +39,7 @@ loop-l-preserved c =
     let l = c.loop-l.l in
     let n = c.args.count in
     rest_more c.loop-l.invariant (label_bytes s f (l + 1) n) (labels_from s f (l + 1) n)
-    (labels_more s f l n (omega (arith, c.loop-l-test.true, c.byte_number-last.ensures.0, c.labels_of.ensures))) c.put_label-place.ensures
+    (labels_more s f l n (omega (arith, rw (c.table.ensures.value) at c.labels_of.ensures))) c.put_label-place.ensures
 
 pub returns : goal.returns
 returns c =
@@ -47,4 +47,4 @@ returns c =
     rest_last (rest_more (whole-at) _ _ refl c.put_entry-place.ensures)
     (rest_done c.loop-l.invariant
     (labels_none c.args.file.now c.args.f c.loop-l.l c.args.count
-    (omega (arith, c.loop-l-test.false, c.byte_number-last.ensures.0, c.labels_of.ensures))))
+    (omega (arith, rw (c.table.ensures.value) at c.labels_of.ensures))))

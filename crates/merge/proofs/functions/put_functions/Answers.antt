@@ -17,7 +17,7 @@ pub put_function-place-requires-clause-room : goal.put_function-place-requires-c
 put_function-place-requires-clause-room c = let s = c.args.file.now in
     let f = c.loop-f.f in
     let n = c.args.count in
-    let below : f < length (program_of s) = omega (arith, c.loop-f-test.true, c.functions_of-functions.ensures) in
+    let below : f < length (program_of s) = omega (arith, rw (c.table.ensures.value) at c.functions-f-end.ensures.count) in
     let first = function_bytes (renumbered_function n (function_of (program_of s) f)) in
     room_front first (functions_from s (f + 1) n) (rest_as c.loop-f.invariant _ (functions_more s f n below))
 
@@ -26,10 +26,10 @@ loop-f-preserved c =
     let s = c.args.file.now in
     let f = c.loop-f.f in
     let n = c.args.count in
-    let below : f < length (program_of s) = omega (arith, c.loop-f-test.true, c.functions_of-functions.ensures) in
+    let below : f < length (program_of s) = omega (arith, rw (c.table.ensures.value) at c.functions-f-end.ensures.count) in
     rest_more c.loop-f.invariant (function_bytes (renumbered_function n (function_of (program_of s) f))) (functions_from s (f + 1) n) (functions_more s f n below) c.put_function-place.ensures
 
 pub returns : goal.returns
 returns c =
     rest_done c.loop-f.invariant
-    (functions_none c.args.file.now c.loop-f.f c.args.count (omega (arith, c.loop-f-test.false, c.functions_of-functions.ensures)))
+    (functions_none c.args.file.now c.loop-f.f c.args.count (omega (arith, rw (c.table.ensures.value) at c.functions-f-end.ensures.count)))

@@ -1,4 +1,3 @@
-use Prim.Native.Nat.{◌-◌}
 use mathlib.Core.List.{map}
 use Rattle.parsing.specs.Parser.{joined}
 use Rattle.semantics.specs.Merge.{renumbered_function}
@@ -10,6 +9,3 @@ use Rattle.merge.proofs.functions.put_functions.Given as goal
 
 abbrev pub invariant-loop-f : goal.invariant-loop-f
 invariant-loop-f l = Rest l.o (joined function_bytes (map (renumbered_function l.count) (program_of l.file))) l.initial.out l.place (functions_from l.file l.f l.count) l.out
-
-abbrev pub decreases-loop-f : goal.decreases-loop-f
-decreases-loop-f l = l.functions - l.f

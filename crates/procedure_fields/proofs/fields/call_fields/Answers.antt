@@ -44,4 +44,5 @@ checked_function-function-requires c =
 
 pub returns : goal.returns
 returns c =
-    call_fields c.args.file.now c.args.at c.requires.at_value c.checked_variable-target.ensures c.checked_function-function.ensures
+    rw c.from.ensures
+    (call_fields c.args.file.now c.args.at c.requires.at_value c.checked_variable-target.ensures c.checked_function-function.ensures)

@@ -1,23 +1,28 @@
+use Rattle.std.proofs.lemmas.Result.{err_from_is_err_and}
+use Rattle.std.proofs.Common.{◌∙◌}
 use Rattle.procedure_file.proofs.FileNamesLaws.{entry_wrong, entry_right, label_wrong, label_right}
-use mathlib.Core.Path.{◌∙◌}
 use Rattle.procedure_file.proofs.check.blocks_named.Goals as goal
 
-pub returns-in-Refused : goal.returns-in-Refused
-returns-in-Refused c =
-    entry_wrong c.args.params.now c.args.file.now c.args.starts.now c.args.f c.args.variables c.args.labels c.requires
-    _ _ c.start_of-entry.ensures c.block_named.ensures c.in-Refused.r c.in-Refused.is
+pub returns-in_err-block_named : goal.returns-in_err-block_named
+returns-in_err-block_named c =
+    let p = err_from_is_err_and c.from_residual.result c.from_residual.ensures.1 in
+    rw (p.1, p.2)
+    (entry_wrong c.args.params.now c.args.file.now c.bytes.ensures.laid c.args.f c.args.variables c.args.labels c.requires
+    _ _ c.start_of-entry.ensures (rw c.bytes.ensures.value at c.block_named.ensures) _ c.in_err-block_named.was)
 
 pub loop-l-init : goal.loop-l-init
 loop-l-init c =
-    entry_right c.args.params.now c.args.file.now c.args.starts.now c.args.f c.args.variables c.args.labels c.requires
-    _ _ c.start_of-entry.ensures c.block_named.ensures c.in-Accepted.is
+    entry_right c.args.params.now c.args.file.now c.bytes.ensures.laid c.args.f c.args.variables c.args.labels c.requires
+    _ _ c.start_of-entry.ensures (rw c.bytes.ensures.value at c.block_named.ensures) c.in_ok-block_named.was
 
-pub returns-in-Refused-labelled_named : goal.returns-in-Refused-labelled_named
-returns-in-Refused-labelled_named c =
-    label_wrong c.args.params.now c.args.file.now c.args.starts.now c.args.f c.args.variables c.args.labels c.requires
-    c.loop-l.l c.loop-l-test.true _ c.labelled_named.ensures c.in-Refused-labelled_named.r c.in-Refused-labelled_named.is ∙ c.loop-l.invariant
+pub returns-in_err-labelled_named : goal.returns-in_err-labelled_named
+returns-in_err-labelled_named c =
+    let p = err_from_is_err_and c.from_residual-in_err-labelled_named.result c.from_residual-in_err-labelled_named.ensures.1 in
+    rw (p.1, p.2)
+    (label_wrong c.args.params.now c.args.file.now c.bytes.ensures.laid c.args.f c.args.variables c.args.labels c.requires
+    c.loop-l.l c.loop-l-test.true _ c.labelled_named.ensures _ c.in_err-labelled_named.was ∙ c.loop-l.invariant)
 
 pub loop-l-preserved : goal.loop-l-preserved
 loop-l-preserved c =
-    label_right c.args.params.now c.args.file.now c.args.starts.now c.args.f c.args.variables c.args.labels c.requires
-    c.loop-l.l c.loop-l-test.true _ c.labelled_named.ensures c.in-Accepted-labelled_named.is ∙ c.loop-l.invariant
+    label_right c.args.params.now c.args.file.now c.bytes.ensures.laid c.args.f c.args.variables c.args.labels c.requires
+    c.loop-l.l c.loop-l-test.true _ c.labelled_named.ensures c.in_ok-labelled_named.was ∙ c.loop-l.invariant

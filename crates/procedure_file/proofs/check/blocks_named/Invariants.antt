@@ -1,11 +1,7 @@
 use Rattle.procedure_file.specs.Asked.{function_verdict}
 use Rattle.procedure_file.proofs.FileNamesLaws.{labels_verdict}
-use Prim.Native.Nat.{◌-◌}
 use mathlib.Core.Path.{◌≡◌}
 use Rattle.procedure_file.proofs.check.blocks_named.Given as goal
 
 abbrev pub invariant-loop-l : goal.invariant-loop-l
 invariant-loop-l l = labels_verdict l.params l.file l.f l.labels l.variables l.l ≡ function_verdict l.params l.file l.f
-
-abbrev pub decreases-loop-l : goal.decreases-loop-l
-decreases-loop-l l = l.labels - l.l

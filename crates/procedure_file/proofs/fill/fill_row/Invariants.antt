@@ -1,9 +1,5 @@
 use Rattle.procedure_file.proofs.FillLaws.{Row}
-use Prim.Native.Nat.{◌-◌}
 use Rattle.procedure_file.proofs.fill.fill_row.Given as goal
 
 abbrev pub invariant-loop-l : goal.invariant-loop-l
 invariant-loop-l l = Row l.file l.f l.labels l.starts l.l l.place
-
-abbrev pub decreases-loop-l : goal.decreases-loop-l
-decreases-loop-l l = l.labels - l.l

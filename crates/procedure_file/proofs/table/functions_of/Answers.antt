@@ -6,4 +6,4 @@ pub bounds-file-5 : goal.bounds-file-5
 bounds-file-5 c = count_inside c.args.file.now c.requires
 
 pub returns : goal.returns
-returns c = c.byte_number.ensures.0 ∙ count_byte c.args.file.now c.requires
+returns c = c.from.ensures ∙ count_byte c.args.file.now c.requires

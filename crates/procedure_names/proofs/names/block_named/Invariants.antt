@@ -4,8 +4,8 @@ use Prim.Native.Nat.{◌-◌}
 use mathlib.Core.Path.{◌≡◌}
 use Rattle.procedure_names.proofs.names.block_named.Given as goal
 
-abbrev pub invariant-loop-r : goal.invariant-loop-r
-invariant-loop-r l = block_verdict l.params l.variables l.labels l.file l.at ≡ block_verdict l.params l.variables l.labels l.file l.start
+abbrev pub invariant-loop-next : goal.invariant-loop-next
+invariant-loop-next l = block_verdict l.params l.variables l.labels l.file l.at ≡ block_verdict l.params l.variables l.labels l.file l.start
 
-abbrev pub decreases-loop-r : goal.decreases-loop-r
-decreases-loop-r l = length l.file - l.at
+abbrev pub decreases-loop-next : goal.decreases-loop-next
+decreases-loop-next l = length l.file - l.at

@@ -2,10 +2,10 @@ use Rattle.procedure_operations.specs.Numbers.{found}
 use Rattle.parsing.proofs.Cases.{cases}
 use Rattle.procedure_operations.proofs.numbers.function_number.Goals as goal
 
-pub returns-then-g-functions : goal.returns-then-g-functions
+pub returns-then-number-functions : goal.returns-then-number-functions
 unfolding found
-returns-then-g-functions c = search cases
+returns-then-number-functions c = search cases
 
-pub returns-else-g-functions : goal.returns-else-g-functions
+pub returns-else-number-functions : goal.returns-else-number-functions
 unfolding found
-returns-else-g-functions c = search cases
+returns-else-number-functions c = search cases

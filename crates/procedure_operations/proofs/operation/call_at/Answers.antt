@@ -9,8 +9,8 @@ returns-then-file-arguments c =
 
 pub returns-then-file-next : goal.returns-then-file-next
 returns-then-file-next c =
-    c.cut-then-file-next.ensures ∙ sym (call_short c.args.file.now c.args.at (omega arith) c.if-file-next.true)
+    c.cut-then-file-next.ensures ∙ sym (call_short c.args.file.now c.args.at (omega arith) (omega (arith, c.from.ensures, c.if-file-next.true)))
 
 pub returns : goal.returns
 returns c =
-    sym (call_in c.args.file.now c.args.at (omega arith))
+    rw c.from.ensures (sym (call_in c.args.file.now c.args.at (omega (arith, c.from.ensures, c.if-file-next.false))))

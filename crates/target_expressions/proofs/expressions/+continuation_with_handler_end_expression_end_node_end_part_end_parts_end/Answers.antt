@@ -1,9 +1,11 @@
+use Rattle.target_slots.specs.declared.slots.Kind.{Kind}
+use Rattle.std.proofs.lemmas.Result.{err_from_is_err_and}
+use Rattle.target_tags.specs.NumberSlot.{NumberSlot}
 use Rattle.std.specs.Prelude.{ℕ, ◌≡◌, ◌≢◌, Bool, List}
 use Rattle.std.proofs.Math.Path.{refl}
 use Rattle.std.proofs.Common.{sym, ◌∙◌, arith}
 use Rattle.parsing.specs.Fields.{version_of}
 use Rattle.target_tags.specs.TagLaws.{width_bound}
-use Rattle.target_tags.specs.declared.tag.NumberSlot.{NumberSlot}
 use Rattle.target_tags.specs.declared.tag.Tag.{Tag}
 use Rattle.target_tags.specs.declared.tag.Tag.TheVariants.{Constant, Copy, Difference, Jump, Resume, Handle, Branch, Continuation, ContinuationWithHandler, DifferenceOrRaise, Refused}
 use Rattle.target_parts.specs.Parts.{fields_end}
@@ -14,7 +16,7 @@ use Rattle.target_expressions.proofs.EndLaws.{part_refused, part_in, part_past, 
 use Rattle.target_expressions.proofs.expressions.+continuation_with_handler_end_expression_end_node_end_part_end_parts_end.Goals as goal
 
 -- A node that is none of tags 7 to 10.
-no_parts_by : (names : Bool) (ps s : List ℕ) (level : ℕ) (ks : List ℕ) (at : ℕ) (t : Tag)
+no_parts_by : (names : Bool) (ps s : List ℕ) (level : ℕ) (ks : List Kind) (at : ℕ) (t : Tag)
     → ((y z n next : ℕ) → t ≢ Branch y z n next) → ((x p n next : ℕ) → t ≢ Continuation x p n next)
     → ((x p h : ℕ) (q : NumberSlot) (n next : ℕ) → t ≢ ContinuationWithHandler x p h q n next) → ((x y z n next : ℕ) → t ≢ DifferenceOrRaise x y z n next)
     → fields_end t ≡ parts_end names ps s level ks at t
@@ -37,28 +39,30 @@ continuation_with_handler_end-overflow_add-place t c =
 
 pub continuation_with_handler_end-overflow_add-middle : goal.continuation_with_handler_end-overflow_add-middle
 continuation_with_handler_end-overflow_add-middle t c =
-    let w = part_past _ _ _ _ _ _ _ _ _ (sym c.part_end.ensures ∙ c.in-Past.is) in
+    let w = part_past _ _ _ _ _ _ _ _ _ (sym c.part_end.ensures ∙ c.in_ok-middle.was) in
     omega (arith, w.inside)
 
-pub continuation_with_handler_end-part_end-requires-in-Is : goal.continuation_with_handler_end-part_end-requires-in-Is
-continuation_with_handler_end-part_end-requires-in-Is t c =
-    let w = part_past _ _ _ _ _ _ _ _ _ (sym c.part_end.ensures ∙ c.in-Past.is) in
+pub continuation_with_handler_end-part_end-requires-2 : goal.continuation_with_handler_end-part_end-requires-2
+continuation_with_handler_end-part_end-requires-2 t c =
+    let w = part_past _ _ _ _ _ _ _ _ _ (sym c.part_end.ensures ∙ c.in_ok-middle.was) in
     let q = c.decreases in
     (omega (arith, q, w.fills), c.requires.file_len_bound)
 
-pub continuation_with_handler_end-returns-in-Stopped : goal.continuation_with_handler_end-returns-in-Stopped
-continuation_with_handler_end-returns-in-Stopped t c =
-    rest_stopped _ _ _ _ _ _ _ _ _ _ _ _ _ _ c.number_width.ensures c.bind.ensures c.bind-rest.ensures _ (sym c.part_end.ensures ∙ c.in-Stopped.is)
+pub continuation_with_handler_end-returns-in_err-middle : goal.continuation_with_handler_end-returns-in_err-middle
+continuation_with_handler_end-returns-in_err-middle t c =
+    let p = err_from_is_err_and c.from_residual.result c.from_residual.ensures.1 in
+    rw (p.1, p.2) (rest_stopped _ _ _ _ _ _ _ _ _ _ _ _ _ _ c.number_width.ensures c.bind.ensures c.bind-rest.ensures _ (sym c.part_end.ensures ∙ c.in_err-middle.was))
 
-pub continuation_with_handler_end-returns-in-Outside : goal.continuation_with_handler_end-returns-in-Outside
-continuation_with_handler_end-returns-in-Outside t c =
-    handler_outside _ _ _ _ _ _ _ _ _ _ _ _ _ _ c.number_width.ensures c.bind.ensures c.bind-rest.ensures _ (sym c.part_end.ensures ∙ c.in-Past.is) _
-    (sym c.size_at.ensures ∙ c.in-Outside.is)
+pub continuation_with_handler_end-returns-in_err-n : goal.continuation_with_handler_end-returns-in_err-n
+continuation_with_handler_end-returns-in_err-n t c =
+    let p = err_from_is_err_and c.from_residual-in_err-n.result c.from_residual-in_err-n.ensures.1 in
+    rw (p.1, p.2) (handler_outside _ _ _ _ _ _ _ _ _ _ _ _ _ _ c.number_width.ensures c.bind.ensures c.bind-rest.ensures _ (sym c.part_end.ensures ∙ c.in_ok-middle.was) _
+    (sym c.size_at.ensures ∙ c.in_err-n.was))
 
-pub continuation_with_handler_end-returns-in-Is : goal.continuation_with_handler_end-returns-in-Is
-continuation_with_handler_end-returns-in-Is t c =
-    handler_in _ _ _ _ _ _ _ _ _ _ _ _ _ _ c.number_width.ensures c.bind.ensures c.bind-rest.ensures _ (sym c.part_end.ensures ∙ c.in-Past.is) _ _ c.bind_number-caught.ensures
-    (sym c.size_at.ensures ∙ c.in-Is.is) c.part_end-in-Is.ensures
+pub continuation_with_handler_end-returns : goal.continuation_with_handler_end-returns
+continuation_with_handler_end-returns t c =
+    handler_in _ _ _ _ _ _ _ _ _ _ _ _ _ _ c.number_width.ensures c.bind.ensures c.bind-rest.ensures _ (sym c.part_end.ensures ∙ c.in_ok-middle.was) _ _ c.bind_number-caught.ensures
+    (sym c.size_at.ensures ∙ c.in_ok-n.was) c.part_end-2.ensures
 
 pub expression_end-loop-next-smaller-in-Onward : goal.expression_end-loop-next-smaller-in-Onward
 expression_end-loop-next-smaller-in-Onward t c =
@@ -90,31 +94,32 @@ pub expression_end-returns-in-Halted : goal.expression_end-returns-in-Halted
 expression_end-returns-in-Halted t c =
     expression_halted _ _ _ _ _ _ c.tag_at-node.ensures c.node_end.ensures _ c.in-Halted.is ∙ c.loop-next.invariant.2
 
-pub node_end-returns-in-Accepted : goal.node_end-returns-in-Accepted
-node_end-returns-in-Accepted t c =
-    node_right _ _ _ _ _ _ _ c.judge.ensures c.in-Accepted.is c.follows.ensures c.parts_end-end.ensures
+pub node_end-returns-in-Ok : goal.node_end-returns-in-Ok
+node_end-returns-in-Ok t c =
+    node_right _ _ _ _ _ _ _ c.judge.ensures c.in-Ok.is c.follows.ensures c.parts_end-end.ensures
 
-pub node_end-returns-in-Refused : goal.node_end-returns-in-Refused
-node_end-returns-in-Refused t c = node_wrong _ _ _ _ _ _ _ c.judge.ensures _ c.in-Refused.is
+pub node_end-returns-in-Err : goal.node_end-returns-in-Err
+node_end-returns-in-Err t c = node_wrong _ _ _ _ _ _ _ c.judge.ensures _ c.in-Err.is
 
 pub part_end-overflow_add-level : goal.part_end-overflow_add-level
 part_end-overflow_add-level t c =
-    let l = level_accepted _ _ _ c.level_checked.ensures c.in-Accepted.is in
+    let l = level_accepted _ _ _ c.level_checked.ensures c.in_ok-level_checked.was in
     omega (arith, l.1)
 
 pub part_end-expression_end-part-requires : goal.part_end-expression_end-part-requires
 part_end-expression_end-part-requires t c =
-    let l = level_accepted _ _ _ c.level_checked.ensures c.in-Accepted.is in
+    let l = level_accepted _ _ _ c.level_checked.ensures c.in_ok-level_checked.was in
     let q = c.decreases in
     (omega (arith, q), (c.requires, omega (arith, l.0)))
 
-pub part_end-returns-in-Refused : goal.part_end-returns-in-Refused
-part_end-returns-in-Refused t c =
-    part_refused _ _ _ _ _ _ _ _ c.level_checked.ensures _ c.in-Refused.is
+pub part_end-returns-in_err-level_checked : goal.part_end-returns-in_err-level_checked
+part_end-returns-in_err-level_checked t c =
+    let p = err_from_is_err_and c.from_residual.result c.from_residual.ensures.1 in
+    rw (p.1, p.2) (part_refused _ _ _ _ _ _ _ _ c.level_checked.ensures _ c.in_err-level_checked.was)
 
-pub part_end-returns-in-Accepted : goal.part_end-returns-in-Accepted
-part_end-returns-in-Accepted t c =
-    c.measured_end.ensures ∙ part_in _ _ _ _ _ _ _ _ c.level_checked.ensures c.in-Accepted.is c.expression_end-part.ensures
+pub part_end-returns : goal.part_end-returns
+part_end-returns t c =
+    c.measured_end.ensures ∙ part_in _ _ _ _ _ _ _ _ c.level_checked.ensures c.in_ok-level_checked.was c.expression_end-part.ensures
 
 pub parts_end-part_end-requires : goal.parts_end-part_end-requires
 parts_end-part_end-requires t c =

@@ -1,3 +1,4 @@
+use Rattle.parsing.specs.declared.reason.Reason.TheVariants.{CalleeArity}
 use mathlib.Core.Path.{ap, ◌∙◌}
 use Prim.Native.Nat.{ℕ}
 use lib.Dec.{eqb}
@@ -8,4 +9,4 @@ use Rattle.target_names.proofs.names.counts.Goals as goal
 pub returns : goal.returns
 unfolding arity
 returns c =
-    c.refused_unless.ensures ∙ ap (λ (m : ℕ). refused_unless (eqb c.args.count m) 10 c.args.place) c.params_of.ensures
+    c.refused_unless.ensures ∙ ap (λ (m : ℕ). refused_unless (eqb c.args.count m) CalleeArity c.args.place) c.params_of.ensures

@@ -1,14 +1,10 @@
-use native.Mathlib.Omega.{arith}
+use Rattle.std.proofs.Common.{arith}
 use Rattle.target_parts.specs.PartsLaws.{pair_cut, pair_whole}
 use Rattle.target_parts.proofs.parts.size_at.Goals as goal
+use Rattle.target_parts.proofs.parts.size_at.Goals.{else-at-file-via-then-at-file+else-at-file-2, else-at-file-via-else-at-file}
 
-pub returns-then-second-file : goal.returns-then-second-file
-returns-then-second-file c =
-    let h = c.if-second-file.true in
-    pair_whole _ _ _ (omega arith) c.pair.ensures
+pub returns-then-at-file-2 : goal.returns-then-at-file-2
+returns-then-at-file-2 c = pair_whole _ _ _ (omega arith) c.pair.ensures
 
-pub returns-else-second-file : goal.returns-else-second-file
-returns-else-second-file c = let h = c.if-second-file.false in pair_cut _ _ (omega arith)
-
-pub returns-else-at-file : goal.returns-else-at-file
-returns-else-at-file c = let h = c.if-at-file.false in pair_cut _ _ (omega arith)
+pub returns : goal.returns
+returns c = pair_cut _ _ (omega arith)

@@ -2,10 +2,10 @@ use mathlib.Core.Path.{sym, ap, ◌∙◌}
 use Rattle.target_slots.specs.Slots.{bound_number}
 use Rattle.target_slots.proofs.slots.bind_number.Goals as goal
 
-pub returns-in-At : goal.returns-in-At
+pub returns-in-Some : goal.returns-in-Some
 unfolding bound_number
-returns-in-At c = c.bind.ensures ∙ sym (ap (bound_number _) c.in-At.is)
+returns-in-Some c = c.bind.ensures ∙ sym (ap (bound_number _) c.in-Some.is)
 
-pub returns-in-Absent : goal.returns-in-Absent
+pub returns-in-None : goal.returns-in-None
 unfolding bound_number
-returns-in-Absent c = sym (ap (bound_number _) c.in-Absent.is)
+returns-in-None c = sym (ap (bound_number _) c.in-None.is)

@@ -1,4 +1,3 @@
-use native.Mathlib.Omega.{arith}
 use mathlib.Core.Path.{refl}
 use Rattle.target_slots.specs.SlotsLaws.{entry_more}
 use Rattle.target_slots.specs.Slots.{entry_kinds}
@@ -6,7 +5,7 @@ use Rattle.target_slots.proofs.slots.entry_kinds.Goals as goal
 
 pub loop-i-init : goal.loop-i-init
 unfolding entry_kinds
-loop-i-init c = (omega arith, refl)
+loop-i-init c = refl
 
 pub loop-i-preserved : goal.loop-i-preserved
-loop-i-preserved c = (omega arith, entry_more _ _ _ c.loop-i.invariant.1 c.bind-kinds.ensures)
+loop-i-preserved c = entry_more _ _ _ c.loop-i.invariant c.bind-kinds.ensures

@@ -8,4 +8,4 @@ returns-then-file-next c = c.cut.ensures ∙ branch_cut _ _ c.if-file-next.true
 
 pub returns : goal.returns
 returns c =
-    branch_in _ _ _ _ _ (omega arith) c.byte_number-left.ensures.0 c.byte_number-right.ensures.0 c.pair-size.ensures
+    branch_in _ _ _ _ _ (omega arith) c.from-left.ensures c.from-right.ensures c.pair-size.ensures

@@ -10,4 +10,4 @@ returns-then-file-next c = c.cut.ensures ∙ constant_cut _ _ c.if-file-next.tru
 
 pub returns : goal.returns
 returns c =
-    constant_in _ _ _ _ (omega arith) c.byte_number-slot.ensures.0 (to_z-of_z {w = w32} (record { sfits = c.value-value.type_inv }) ∙ c.value-value.ensures)
+    constant_in _ _ _ _ (omega arith) c.from-slot.ensures (to_z-of_z {w = w32} (record { sfits = c.value-value.type_inv }) ∙ c.value-value.ensures)

@@ -8,4 +8,4 @@ returns-then-file-next c = c.cut.ensures ∙ continuation_cut _ _ c.if-file-next
 
 pub returns : goal.returns
 returns c =
-    continuation_in _ _ _ _ _ (omega arith) c.byte_number-slot.ensures.0 c.byte_number-parameter.ensures.0 c.pair-size.ensures
+    continuation_in _ _ _ _ _ (omega arith) c.from-slot.ensures c.from-parameter.ensures c.pair-size.ensures

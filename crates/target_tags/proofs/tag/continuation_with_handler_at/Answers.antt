@@ -13,5 +13,5 @@ returns-then-file-next c =
 
 pub returns : goal.returns
 returns c =
-    continuation_with_handler_in _ _ _ _ _ _ _ _ c.number_width-width.ensures (omega arith) c.byte_number-slot.ensures.0 c.byte_number-parameter.ensures.0 c.byte_number-handler.ensures.0
+    continuation_with_handler_in _ _ _ _ _ _ _ _ c.number_width-width.ensures (omega arith) c.from-slot.ensures c.from-parameter.ensures c.from-handler.ensures
     c.number_slot_at-number.ensures c.pair-size.ensures

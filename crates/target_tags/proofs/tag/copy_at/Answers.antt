@@ -7,4 +7,4 @@ pub returns-then-file-next : goal.returns-then-file-next
 returns-then-file-next c = c.cut.ensures ∙ copy_cut _ _ c.if-file-next.true
 
 pub returns : goal.returns
-returns c = copy_in _ _ _ _ (omega arith) c.byte_number-slot.ensures.0 c.byte_number-from.ensures.0
+returns c = copy_in _ _ _ _ (omega arith) c.from-slot.ensures c.from-from.ensures

@@ -8,4 +8,4 @@ returns-then-file-next c = c.cut.ensures ∙ difference_or_raise_cut _ _ c.if-fi
 
 pub returns : goal.returns
 returns c =
-    difference_or_raise_in _ _ _ _ _ _ (omega arith) c.byte_number-slot.ensures.0 c.byte_number-left.ensures.0 c.byte_number-right.ensures.0 c.pair-size.ensures
+    difference_or_raise_in _ _ _ _ _ _ (omega arith) c.from-slot.ensures c.from-left.ensures c.from-right.ensures c.pair-size.ensures

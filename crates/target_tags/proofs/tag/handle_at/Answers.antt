@@ -13,4 +13,4 @@ returns-then-file-next c =
 
 pub returns : goal.returns
 returns c =
-    handle_in _ _ _ _ _ c.number_width.ensures (omega arith) c.byte_number-handler.ensures.0 c.number_slot_at-value.ensures
+    handle_in _ _ _ _ _ c.number_width.ensures (omega arith) c.from-handler.ensures c.number_slot_at-value.ensures

@@ -7,7 +7,7 @@ bounds-file-at c =
 
 pub returns-then-version_of-eq2 : goal.returns-then-version_of-eq2
 returns-then-version_of-eq2 c =
-    number_there _ _ c.version_of.ensures c.if-version_of-eq2.true c.byte_number.ensures.0
+    number_there _ _ c.version_of.ensures c.if-version_of-eq2.true c.from.ensures
 
 pub returns : goal.returns
 returns c = number_absent _ _ c.version_of.ensures c.if-version_of-eq2.false

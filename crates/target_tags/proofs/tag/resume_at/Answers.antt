@@ -7,4 +7,4 @@ pub returns-then-file-next : goal.returns-then-file-next
 returns-then-file-next c = c.cut.ensures ∙ resume_cut _ _ c.if-file-next.true
 
 pub returns : goal.returns
-returns c = resume_in _ _ _ _ (omega arith) c.byte_number-continuation.ensures.0 c.byte_number-value.ensures.0
+returns c = resume_in _ _ _ _ (omega arith) c.from-continuation.ensures c.from-value.ensures

@@ -11,14 +11,14 @@ loop-l-init c =
 
 pub put_label-place-requires-clause-room : goal.put_label-place-requires-clause-room
 put_label-place-requires-clause-room c = room_front (label_bytes c.args.file.now c.args.f c.loop-l.l) (blocks_from c.args.file.now c.args.f (c.loop-l.l + 1))
-    (rest_as c.loop-l.invariant _ (blocks_more c.args.file.now c.args.f c.loop-l.l (omega (arith, c.loop-l-test.true, c.byte_number-labels.ensures.0, c.labels_of.ensures))))
+    (rest_as c.loop-l.invariant _ (blocks_more c.args.file.now c.args.f c.loop-l.l (omega (arith, rw (c.table.ensures.value) at c.labels_of.ensures))))
 
 pub loop-l-preserved : goal.loop-l-preserved
 loop-l-preserved c =
     rest_more c.loop-l.invariant (label_bytes c.args.file.now c.args.f c.loop-l.l) (blocks_from c.args.file.now c.args.f (c.loop-l.l + 1))
-    (blocks_more c.args.file.now c.args.f c.loop-l.l (omega (arith, c.loop-l-test.true, c.byte_number-labels.ensures.0, c.labels_of.ensures))) c.put_label-place.ensures
+    (blocks_more c.args.file.now c.args.f c.loop-l.l (omega (arith, rw (c.table.ensures.value) at c.labels_of.ensures))) c.put_label-place.ensures
 
 pub returns : goal.returns
 returns c =
     rest_done c.loop-l.invariant
-    (blocks_none c.args.file.now c.args.f c.loop-l.l (omega (arith, c.loop-l-test.false, c.byte_number-labels.ensures.0, c.labels_of.ensures)))
+    (blocks_none c.args.file.now c.args.f c.loop-l.l (omega (arith, rw (c.table.ensures.value) at c.labels_of.ensures)))

@@ -11,13 +11,13 @@ loop-f-init c =
 
 pub put_function-place-requires-clause-room : goal.put_function-place-requires-clause-room
 put_function-place-requires-clause-room c = room_front (function_bytes c.args.file.now c.loop-f.f) (functions_from c.args.file.now (c.loop-f.f + 1))
-    (rest_as c.loop-f.invariant _ (functions_more c.args.file.now c.loop-f.f (omega (arith, c.loop-f-test.true, c.functions_of-count.ensures))))
+    (rest_as c.loop-f.invariant _ (functions_more c.args.file.now c.loop-f.f (omega (arith, rw (c.table.ensures.value) at c.functions-count.ensures.count))))
 
 pub loop-f-preserved : goal.loop-f-preserved
 loop-f-preserved c =
     rest_more c.loop-f.invariant (function_bytes c.args.file.now c.loop-f.f) (functions_from c.args.file.now (c.loop-f.f + 1))
-    (functions_more c.args.file.now c.loop-f.f (omega (arith, c.loop-f-test.true, c.functions_of-count.ensures))) c.put_function-place.ensures
+    (functions_more c.args.file.now c.loop-f.f (omega (arith, rw (c.table.ensures.value) at c.functions-count.ensures.count))) c.put_function-place.ensures
 
 pub returns : goal.returns
 returns c =
-    rest_done c.loop-f.invariant (functions_none c.args.file.now c.loop-f.f (omega (arith, c.loop-f-test.false, c.functions_of-count.ensures)))
+    rest_done c.loop-f.invariant (functions_none c.args.file.now c.loop-f.f (omega (arith, rw (c.table.ensures.value) at c.functions-count.ensures.count)))

@@ -1,11 +1,7 @@
 use Rattle.translator.specs.FileLaws.{functions_from}
 use Rattle.byte_writers.specs.WriteLaws.{Rest}
 use Rattle.translator_sizes.specs.Parts.{functions_bytes}
-use Prim.Native.Nat.{◌-◌}
 use Rattle.translator.proofs.parts.put_functions.Given as goal
 
 abbrev pub invariant-loop-f : goal.invariant-loop-f
 invariant-loop-f l = Rest l.o (functions_bytes l.file) l.initial.out l.place (functions_from l.file l.f) l.out
-
-abbrev pub decreases-loop-f : goal.decreases-loop-f
-decreases-loop-f l = l.count - l.f

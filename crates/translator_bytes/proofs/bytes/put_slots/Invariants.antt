@@ -1,10 +1,7 @@
 use Rattle.byte_writers.specs.WriteLaws.{Rest}
 use Rattle.semantics.specs.Translation.{slots_from}
-use Prim.Native.Nat.{◌+◌, ◌≤◌}
+use Prim.Native.Nat.{◌+◌, ◌-◌}
 use Rattle.translator_bytes.proofs.bytes.put_slots.Given as goal
 
-abbrev pub invariant-loop-left : goal.invariant-loop-left
-invariant-loop-left l = Rest l.o (slots_from l.first l.n) l.initial.out l.place (slots_from l.slot l.left) l.out × (l.slot + l.left ≤ 255)
-
-abbrev pub decreases-loop-left : goal.decreases-loop-left
-decreases-loop-left l = l.left
+abbrev pub invariant-loop-slot : goal.invariant-loop-slot
+invariant-loop-slot l = Rest l.o (slots_from l.first l.n) l.initial.out l.place (slots_from l.slot (l.first + l.n - l.slot)) l.out

@@ -4,4 +4,4 @@ use Rattle.translator_bytes.proofs.jumps.put_constant.Goals as goal
 
 pub returns : goal.returns
 returns c =
-    constant_wrote c.args.x (omega arith, omega arith, omega arith, omega arith) c.slot_of-target.ensures c.requires.room c.put_two-a.ensures c.put_four.ensures
+    constant_wrote c.args.x (omega arith, omega arith, omega arith, omega arith) c.slot_of-target.ensures c.put.ensures

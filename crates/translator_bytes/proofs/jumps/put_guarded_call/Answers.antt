@@ -2,12 +2,13 @@ use Rattle.translator_bytes.proofs.JumpLaws.{guarded_pair_room, guarded_jump_roo
 use Rattle.translator_bytes.proofs.LengthLaws.{call_size_lem, head_size}
 use mathlib.Core.Path.{refl}
 use Rattle.procedure_operations.specs.Operation.{arguments_at}
+use native.Mathlib.Omega.{arith}
 use Rattle.translator_bytes.proofs.jumps.put_guarded_call.Goals as goal
 
 pub returns : goal.returns
 returns c =
     guarded_wrote c.args.base c.args.u c.args.x.0 c.args.g c.args.n
-    (arguments_at c.args.file.now c.args.at c.args.n) c.slot_of-target.ensures c.jump_size-size.ensures c.jump_size-other.ensures c.requires.base_bound.5.long c.requires.room
+    (arguments_at c.args.file.now c.args.at c.args.n) c.slot_of-target.ensures (omega arith) (omega arith) c.requires.base_bound.5.long c.requires.room
     c.put_guarded_head-a.ensures c.put_pair-b.ensures c.put_call_jump-e.ensures c.put_pair-f.ensures
     c.put_label_jump.ensures
 

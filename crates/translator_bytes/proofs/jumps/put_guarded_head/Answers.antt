@@ -7,4 +7,4 @@ use Rattle.translator_bytes.proofs.jumps.put_guarded_head.Goals as goal
 pub returns : goal.returns
 unfolding guarded_head
 returns c =
-    wrote_after (9 ∷ c.args.k ∷ c.args.target ∷ c.args.t ∷ []) (if_any c.args.number (c.args.number ∷ [])) c.requires (omega arith) c.put_four-a.ensures c.put_slot_if_any.ensures
+    wrote_after (9 ∷ c.args.k ∷ c.args.target ∷ c.args.t ∷ []) (if_any c.args.number (c.args.number ∷ [])) c.requires (omega arith) c.put-a.ensures c.put_slot_if_any.ensures

@@ -9,6 +9,6 @@ pub returns : goal.returns
 unfolding jump_head
 returns c =
     let slots = c.args.k ∷ c.args.h ∷ c.args.n ∷ [] in
-    let R = room_behind 5 c.requires.room c.put_one-a.ensures (omega arith) in
-    wrote_after (4 ∷ []) (pair_bytes c.args.g ++ slots) c.requires.room (omega arith) c.put_one-a.ensures
-    (wrote_after (pair_bytes c.args.g) slots R (omega arith) c.put_pair-b.ensures c.put_three.ensures)
+    let R = room_behind 5 c.requires.room c.put-a.ensures (omega arith) in
+    wrote_after (4 ∷ []) (pair_bytes c.args.g ++ slots) c.requires.room (omega arith) c.put-a.ensures
+    (wrote_after (pair_bytes c.args.g) slots R (omega arith) c.put_pair-b.ensures c.put.ensures)

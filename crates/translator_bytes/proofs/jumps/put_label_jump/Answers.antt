@@ -12,5 +12,5 @@ put_slots-requires-clause-room c = room_behind c.args.v c.requires.room c.put_ju
 pub returns : goal.returns
 unfolding label_jump jump_head
 returns c =
-    wrote_after (jump_head (c.args.base + c.args.l) 0 1 c.args.v) (slots_from 2 c.args.v) c.requires.room (omega arith) c.put_jump_head-a.ensures
+    wrote_after (jump_head (c.args.base + c.args.l) 0 1 c.args.v) (slots_from 2 c.args.v) c.requires.room (omega arith) (rw c.from.ensures at c.put_jump_head-a.ensures)
     c.put_slots.ensures

@@ -1,3 +1,4 @@
+use Rattle.std.proofs.Common.{lit<}
 use Rattle.translator_bytes.proofs.JumpLaws.{value_uncaught_as, value_caught_as, value_uncaught_sum, value_caught_sum, wrote_as}
 use Rattle.byte_writers.specs.WriteLaws.{room_less, room_as, room_behind, wrote_after}
 use Rattle.translator_bytes.proofs.LengthLaws.{any_size}
@@ -8,16 +9,16 @@ use mathlib.Core.Path.{refl}
 use native.Mathlib.Omega.{arith}
 use Rattle.translator_bytes.proofs.jumps.put_raise_value.Goals as goal
 
-pub put_three-requires : goal.put_three-requires
-put_three-requires c =
-    room_as (value_uncaught_sum c.args.u c.if-u-eq0.true) c.requires.room
+pub put-requires : goal.put-requires
+put-requires c =
+    (lit< tt, room_as (value_uncaught_sum c.args.u c.if-u-eq0.true) c.requires.room)
 
 pub put_value_if_any-a-requires-clause-room : goal.put_value_if_any-a-requires-clause-room
 put_value_if_any-a-requires-clause-room c = room_less c.requires.room (omega (arith, value_caught_sum c.args.u c.if-u-eq0.false refl refl))
 
 pub returns-then-u-eq0 : goal.returns-then-u-eq0
 returns-then-u-eq0 c =
-    wrote_as (value_uncaught_as c.args.base c.args.u c.args.y.0 c.slot_of-value.ensures c.if-u-eq0.true) c.put_three.ensures
+    wrote_as (value_uncaught_as c.args.base c.args.u c.args.y.0 c.slot_of-value.ensures c.if-u-eq0.true) c.put.ensures
 
 pub returns-else-u-eq0 : goal.returns-else-u-eq0
 returns-else-u-eq0 c =

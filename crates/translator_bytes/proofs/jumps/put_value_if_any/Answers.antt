@@ -1,12 +1,13 @@
+use Rattle.std.proofs.Common.{lit<}
 use Rattle.translator_bytes.proofs.JumpLaws.{none_as, any_value_as, any_sum, wrote_as}
 use Rattle.byte_writers.specs.WriteLaws.{room_as, wrote_none}
 use Prim.Native.Nat.{◌+◌}
 use mathlib.Core.List.{[], ◌∷◌}
 use Rattle.translator_bytes.proofs.jumps.put_value_if_any.Goals as goal
 
-pub put_three-requires : goal.put_three-requires
-put_three-requires c =
-    room_as (any_sum c.args.slot 3 c.if-slot-eq0.false) c.requires.room
+pub put-requires : goal.put-requires
+put-requires c =
+    (lit< tt, room_as (any_sum c.args.slot 3 c.if-slot-eq0.false) c.requires.room)
 
 pub returns-then-slot-eq0 : goal.returns-then-slot-eq0
 returns-then-slot-eq0 c =
@@ -14,4 +15,4 @@ returns-then-slot-eq0 c =
 
 pub returns-else-slot-eq0 : goal.returns-else-slot-eq0
 returns-else-slot-eq0 c =
-    wrote_as (any_value_as c.args.slot c.args.y.0 c.slot_of-from.ensures c.if-slot-eq0.false) c.put_three.ensures
+    wrote_as (any_value_as c.args.slot c.args.y.0 c.slot_of-from.ensures c.if-slot-eq0.false) c.put.ensures

@@ -10,6 +10,6 @@ returns-then-u-eq0 c = (
 
 pub returns-else-u-eq0 : goal.returns-else-u-eq0
 returns-else-u-eq0 c = (
-  raise_sum c.args.u c.size_if_any-first.ensures.0 (caught_end c.args.u c.if-u-eq0.false c.jump_size-jump.ensures),
+  raise_sum c.args.u c.size_if_any-first.ensures.0 (caught_end c.args.u c.if-u-eq0.false (omega arith)),
   omega (arith, c.size_if_any-first.ensures.1, c.jump_size-jump.ensures, c.requires),
 )

@@ -8,6 +8,6 @@ returns-then-u-eq0 c =
 
 pub returns-else-u-eq0 : goal.returns-else-u-eq0
 returns-else-u-eq0 c = (
-  value_caught_sum c.args.u c.if-u-eq0.false c.size_if_any-first.ensures.0 c.jump_size-jump.ensures,
+  value_caught_sum c.args.u c.if-u-eq0.false c.size_if_any-first.ensures.0 (omega arith),
   omega (arith, c.size_if_any-first.ensures.1, c.jump_size-jump.ensures, c.requires),
 )
