@@ -101,18 +101,23 @@ def point_5(files):
 
 
 def point_6(files):
-    """Arrays that are made to be filled, and structs of two arrays."""
-    made = lines(files, r"let mut \w+ = \[")
+    """Arrays of which a part is lent by a count, and structs of two arrays."""
+    lent = lines(files, r"\w\[\.\.\w+\]")
     pairs = []
     for name, text in files:
         for m in re.finditer(r"^(?:pub )?struct (\w+) \{\n(.*?)^\}", text, flags=re.M | re.S):
             if len(re.findall(r": \[", m.group(2))) > 1:
                 pairs.append(f"{name}: struct {m.group(1)}")
-    return made + pairs
+    return lent + pairs
 
 
 def point_7(files):
-    return lines(files, r"match (number|number_at\(|file\[at\]|tag)\b")
+    """Matches by numerals."""
+    found = []
+    for name, text in files:
+        for m in re.finditer(r"match ([^{}\n]+) \{\n\s*\d+", text):
+            found.append(f"{name}:{text.count(chr(10), 0, m.start()) + 1}: match {m.group(1)}")
+    return found
 
 
 def main():

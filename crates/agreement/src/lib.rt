@@ -134,6 +134,7 @@ pub fn sides_loaded(
     }
     let g = entry_number(table, f);
     put_file(file, room);
+    // The room is the caller's, and no heap: its front is the translation.
     run_both(
         file,
         f,

@@ -54,6 +54,7 @@ fn run_on<W: Write>(
     budget: u32,
     delta: u8,
 ) -> io::Result<()> {
+    // No heap: arrays, of which the front is lent.
     let mut args = [0i32; 256];
     let n = arguments(given, &mut args);
     let mut space = [UNTOUCHED; 13000];

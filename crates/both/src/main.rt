@@ -9,6 +9,7 @@ use std::io;
 
 // 4,096 bytes hold every header and more than the 2,048 bytes that a file may have: what is left unread changes nothing (`whole_input`).
 fn main(rt: HostRuntime) -> io::Result<()> {
+    // No heap: arrays, of which the front is lent.
     let mut space = [0u8; 4096];
     let got = read_full(&mut rt.stdin(), &mut space)?;
     let mut out = [0u8; 256];

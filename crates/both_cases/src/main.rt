@@ -13,6 +13,7 @@ use std::io::{Read, Write};
 
 // The text of one input.
 fn run_case<W: Write>(writer: &mut W, input: &[u8]) -> io::Result<()> {
+    // No heap: arrays, of which the front is lent.
     let mut out = [0u8; 256];
     let n = report(input, &mut out);
     say(writer, &out[..n])

@@ -23,6 +23,7 @@ fn some_refusal() -> Refusal {
     }
 }
 
+// Bytes of the record, as its format has them.
 fn verdict_of(b: u8) -> Result<(), Refusal> {
     match b {
         0 => Ok(()),

@@ -19,6 +19,7 @@ fn run_case<W: Write>(
     out: &mut [u8],
 ) -> io::Result<()> {
     match merge::merge(first, second, out) {
+        // A `usize` as 64 bits: `From` does not have it.
         Ok(n) => numbered(writer, b"written", n as u64)?,
         Err(r) => refusal(writer, r)?,
     }
@@ -38,6 +39,7 @@ fn run_record<R: Read, W: Write>(
         return Ok(false);
     }
     let size = triple(head[0], head[1], head[2]);
+    // No heap: arrays, of which the front is lent.
     let mut first = [0u8; 65536];
     let got = read_part(reader, &mut first, size)?;
     if got < size {

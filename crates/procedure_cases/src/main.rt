@@ -27,6 +27,7 @@ fn run_record<R: Read, W: Write>(reader: &mut R, writer: &mut W) -> io::Result<b
         return Ok(false);
     }
     let size = triple(head[3], head[4], head[5]);
+    // No heap: arrays, of which the front is lent.
     let mut buffer = [0u8; 65536];
     let got = read_part(reader, &mut buffer, size)?;
     if got < size {

@@ -235,7 +235,7 @@ pub fn branch_fields(file: &[u8], at: usize) -> BranchFields
     }
 }
 
-// 9, a raise of a variable's value
+// 9, a raise of a variable's value (the fields of a return, told apart by type from them)
 #[derive(Drop)]
 pub struct RaiseValueFields {
     pub variable: VariableNumber,

@@ -92,6 +92,7 @@ fn load_laid(file: &[u8], starts: &mut [u16; 2048]) -> Result<(), Refusal>
     ensures { (verdict_of result ≡ check_of file.now) × LoadedOr (check_of file.now) file.now starts.old starts.new }
 {
     let mut filled = [0u16; 2048];
+    // No heap: an array, of which the front is lent.
     let mut params = [0u8; 32];
     let count = fill::fill(file, &mut filled, &mut params);
     file_named(&TabledFile::new(file, &filled), &params[..count])?;

@@ -110,7 +110,7 @@ fn three_named(x: u8, y: u8, z: u8, variables: usize, at: usize) -> Result<(), R
     )
 }
 
-// The two labels of the branch at an offset.
+// The two labels of the branch at an offset. (Alike with `two_named` in form alone: one function for both would take the judge and two places.)
 fn labels_named(l: u8, m: u8, labels: usize, at: usize) -> Result<(), Refusal>
     requires { at < 9223372036854775808 }
     ensures { verdict_of result ≡ first_wrong (label labels (at + 3) l ∷ label labels (at + 4) m ∷ []) }

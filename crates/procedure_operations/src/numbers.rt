@@ -38,7 +38,7 @@ pub fn function_number(g: u8, functions: usize) -> Option<FunctionNumber>
     }
 }
 
-// The number of a variable, of `variables`.
+// The number of a variable, of `variables`. (Each set has its own function of one test: one for both needs a trait that makes either number.)
 pub fn variable_number(x: u8, variables: usize) -> Option<VariableNumber>
     ensures { variable_as result ≡ found MissingVariable x variables }
 {

@@ -55,6 +55,7 @@ pub enum Operation {
     Refused(Refusal),
 }
 
+// The file ends early. (Tags have the same line for theirs: one for both would take what makes an operation or a tag.)
 fn cut(file: &[u8]) -> Operation
     ensures { result ≡ Operation.Refused (cut file.now) }
 {
@@ -148,6 +149,7 @@ fn goto_at(file: &[u8], at: usize) -> Operation
     }
 }
 
+// (Alike with `goto_at` but for the variant, which a function for both would have to be given.)
 fn return_at(file: &[u8], at: usize) -> Operation
     requires { at < length file.now }
     ensures { result ≡ return_at file.now at }
@@ -200,7 +202,7 @@ fn raise_value_at(file: &[u8], at: usize) -> Operation
     }
 }
 
-// The operations that end a block, 5 to 8 and in version 2 9.
+// The operations that end a block, 5 to 8 and in version 2 9. (Here and in `operation_at` the byte becomes a variant: by its number.)
 fn end_at(file: &[u8], at: usize, number: u8) -> Operation
     requires { at < length file.now }
     ensures { result ≡ end_at file.now at number }

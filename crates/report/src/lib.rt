@@ -43,6 +43,7 @@ fn write_refusal(out: &mut [u8], r: Refusal) -> usize
     requires { 256 ≤ length out.old }
     ensures { WroteText 0 (refused_text (number_of r.reason) r.place) out.old result out.new }
 {
+    // A `usize` as 64 bits: `From` does not have it.
     write_refused(out, u64::from(r.reason.number()), r.place as u64)
 }
 
@@ -62,6 +63,7 @@ fn write_sides(out: &mut [u8], version: u8, a: Sides) -> usize
             write_both(
                 out,
                 version,
+                // As above.
                 a.target as u64,
                 bench_stop,
                 b.steps,

@@ -34,6 +34,7 @@ fn untouched(part: &[u8]) -> bool {
 // The translation, and `kept` where the room past it is as it was.
 fn print_translation<W: Write>(writer: &mut W, out: &[u8], size: usize) -> io::Result<()> {
     let n = room(out, size);
+    // A `usize` as 64 bits: `From` does not have it.
     numbered(writer, b"target", size as u64)?;
     say(writer, b" ")?;
     bytes(writer, &out[..n], true)?;
@@ -107,6 +108,7 @@ fn run_on<W: Write>(writer: &mut W, head: &[u8; 17], given: &[u8], file: &[u8]) 
     let start = pair(head[0], head[1]);
     let depth = pair(head[3], head[4]);
     let budget = word(head[5], head[6], head[7], head[8]);
+    // No heap: arrays, of which the front is lent.
     let mut args = [0i32; 256];
     let n = arguments(given, &mut args);
     let mut frame_words = [UNTOUCHED; 13000];

@@ -17,6 +17,7 @@ fn run_record<R: Read, W: Write>(reader: &mut R, writer: &mut W) -> io::Result<b
         return Ok(false);
     }
     let size = triple(head[0], head[1], head[2]);
+    // No heap: arrays, of which the front is lent.
     let mut buffer = [0u8; 131072];
     let got = read_part(reader, &mut buffer, size)?;
     if got < size {

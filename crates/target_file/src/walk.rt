@@ -3,6 +3,7 @@ ghost use Rattle.target_file.specs.Tables.{LaidOut, Tabled};
 
 use casts::pair;
 
+// No heap: two arrays of the most functions that a file may have, of which the front is filled.
 #[derive(Drop)]
 pub struct Tables {
     pub starts: [u16; 2048],

@@ -91,7 +91,7 @@ pub fn slots_of(file: &[u8]) -> usize
     36
 }
 
-// The bytes of a number's slot.
+// The bytes of a number's slot. (One test and two numbers, as `slots_of`: a table of both by version would be no plainer.)
 pub fn number_width(file: &[u8]) -> usize
     ensures { result ≡ number_width (version_of file.now) }
 {
@@ -112,6 +112,7 @@ pub fn number_slot_at(file: &[u8], at: usize) -> Option<usize>
     None
 }
 
+// The file ends early. (As the operations' own: one for both would take what makes a tag or an operation.)
 fn cut(file: &[u8]) -> Tag
     ensures { result ≡ Tag.Refused (cut file.now) }
 {
@@ -248,6 +249,7 @@ fn branch_at(file: &[u8], at: usize) -> Tag
     }
 }
 
+// (The fields stand as those of a branch, and mean other things: one reader for both would still have a variant each.)
 fn continuation_at(file: &[u8], at: usize) -> Tag
     requires { at < length file.now }
     ensures { result ≡ continuation_at file.now at }
@@ -317,7 +319,7 @@ fn difference_or_raise_at(file: &[u8], at: usize) -> Tag
     }
 }
 
-// The node at an offset, by its tag.
+// The node at an offset, by its tag: here the byte becomes a variant.
 pub fn tag_at(file: &[u8], at: usize) -> Tag
     ensures { result ≡ tag_at file.now at }
 {

@@ -48,6 +48,7 @@ fn put_operation(
     requires room { Room o (operation_size u (operation_at file.now at)) out.old }
     ensures { Wrote o (operation_bytes (tabled numbers.now) base u file.now at (operation_at file.now at)) out.old result out.new }
 {
+    // By the byte, as the machines: each arm reads its own fields alone.
     match number_at(file, at) {
         1 => jumps::put_constant(out, o, constant_bytes(file, at)),
         2 => {

@@ -14,6 +14,7 @@ use std::io::{Read, Write};
 
 fn run_case<W: Write>(writer: &mut W, file: &[u8], out: &mut [u8]) -> io::Result<()> {
     match translator::translate(file, out) {
+        // A `usize` as 64 bits: `From` does not have it.
         Ok(n) => numbered(writer, b"written", n as u64)?,
         Err(r) => refusal(writer, r)?,
     }
@@ -34,6 +35,7 @@ fn run_record<R: Read, W: Write>(
     }
     let size = triple(head[0], head[1], head[2]);
     let wanted = triple(head[3], head[4], head[5]);
+    // No heap: arrays, of which the front is lent.
     let mut buffer = [0u8; 65536];
     let got = read_part(reader, &mut buffer, size)?;
     if got < size {
