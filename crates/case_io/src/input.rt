@@ -22,5 +22,6 @@ pub fn read_part<R: Read>(reader: &mut R, part: &mut [u8], n: usize) -> io::Resu
     if part.len() < n {
         return Ok(0);
     }
+    // The caller's array, and no heap: its front is filled.
     read_full(reader, &mut part[..n])
 }

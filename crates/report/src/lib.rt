@@ -142,6 +142,7 @@ pub fn report(input: &[u8], out: &mut [u8; 256]) -> usize
         input[from + 2],
         input[from + 3],
     );
+    // No heap: an array, of which the front is lent.
     let mut arguments = [0i32; 256];
     fill(input, n, &mut arguments);
     write_file(out, &input[header..], &arguments[..n], depth, budget)

@@ -19,6 +19,7 @@ fn names_loaded(file: &[u8], starts: &mut [u16; 2048]) -> Result<(), Refusal>
     let tables = walk::tables_of(file);
     let params = tables.params;
     let n = pair(file[5], file[6]);
+    // No heap: an array, of which the front is lent.
     layout::code_end(file, &params[..n], true)?;
     let bodies = tables.starts;
     *starts = bodies;

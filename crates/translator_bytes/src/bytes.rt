@@ -46,7 +46,7 @@ pub fn put_arguments(file: &[u8], at: usize, out: &mut [u8], o: usize, n: u8) ->
     place
 }
 
-// n locals from slot `first` on, bound to 0.
+// n locals from slot `first` on, bound to 0. (As `put_slots` goes over slots: a closure for the one line of each would say no less.)
 pub fn put_zeros(out: &mut [u8], o: usize, first: u8, n: u8) -> usize
     requires n_bound { first + n ≤ 255 }
     requires room { Room o (6 * n) out.old }

@@ -38,7 +38,7 @@ fn put_slot_if_any(out: &mut [u8], o: usize, slot: u8) -> usize
     if slot == 0 { o } else { put(out, o, [slot]) }
 }
 
-// A slot, if any, bound to 0.
+// A slot, if any, bound to 0. (The three of them differ in what is written: a closure for it would say no less.)
 fn put_zero_if_any(out: &mut [u8], o: usize, slot: u8) -> usize
     requires { Room o (size_if_any slot 6) out.old }
     ensures { Wrote o (if_any slot ((1 ∷ slot ∷ []) ++ (0 ∷ 0 ∷ 0 ∷ 0 ∷ []))) out.old result out.new }
