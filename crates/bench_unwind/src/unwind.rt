@@ -3,6 +3,7 @@ ghost use Rattle.std.specs.Prelude.{◌≡◌, ◌<◌, ◌≤◌, length};
 ghost use Rattle.semantics.specs.WellFormed.{IsLabel};
 ghost use Rattle.semantics.specs.Matching.{newest_guarded};
 ghost use Rattle.procedure_operations.specs.Operation.{operation_at};
+ghost use Rattle.procedure_file.specs.FileInvariant.{FileInvariant};
 ghost use Rattle.procedure_file.specs.Check.{program_of};
 ghost use Rattle.bench_frames.specs.Machine.{function_at, start_regs, frames_of, Standing};
 ghost use Rattle.bench_frames.specs.Steps.{StepResult};
@@ -39,7 +40,7 @@ pub fn entered(file: &TabledFile, f: usize, l: usize, waiting: usize, extras: u6
 
 // 6 return. A frame has room for 32 variables, and all are copied: behind those of its function nothing is promised.
 pub fn return_step(
-    file: &LoadedFile,
+    file: &[u8],
     limit: usize,
     r: Regs,
     vars: &mut [i32; 32],
@@ -47,12 +48,11 @@ pub fn return_step(
     variable: VariableNumber,
     next: usize,
 ) -> Step
+    requires file_invariant { FileInvariant file.now }
     requires standing { Standing file.now limit r vars.old words.now }
     requires at_value { operation_at file.now r.at ≡ Operation.Return variable.0 next }
     ensures { StepResult file.now limit r vars.old words.now result vars.new words.now }
 {
-    // For the proof alone: `bytes` ensures that the file is accepted.
-    file.bytes();
     let v = vars[variable.index()];
     if r.waiting == 0 {
         return Step::Ended {

@@ -5,4 +5,4 @@ use Rattle.bench_step.proofs.step.raised_value.Goals as goal
 
 pub returns : goal.returns
 returns c =
-    value_raises c.bytes.ensures.right c.requires.standing c.requires.at_value c.index.ensures (to_z-of_z {w = w32} (search rules))
+    value_raises c.requires.file_invariant c.requires.standing c.requires.at_value c.index.ensures (to_z-of_z {w = w32} (search rules))
