@@ -9,7 +9,8 @@ use Rattle.semantics.specs.WellFormed.{All}
 use Rattle.semantics.specs.Controller.{control_step, controller}
 use Rattle.semantics.specs.Translation.{code, translate}
 use Rattle.semantics.specs.Extras.{extras}
-use Rattle.parsing.specs.Parser.{Verdict, refused}
+use Rattle.parsing.specs.Parser.{Verdict, accepted, refused}
+use Rattle.parsing.specs.Refusals.{number_of}
 use Rattle.parsing.specs.Fields as Fields
 use Rattle.procedure_operations.specs.Operation as Operation
 use Rattle.procedure_layout.specs.Layout as Layout
@@ -167,18 +168,23 @@ file_t_translated =
 
 -- A row of the table.
 pub data Row : Type 0 where
-  -- A file, and the checker's answer.
-  checks : List ℕ → Verdict → Row
-  -- A file and one byte, whatever byte it is, and the checker's answer.
-  checks_with_one_more : List ℕ → Verdict → Row
+  -- A file, the number that document 01 gives its refusal, and the checker's answer.
+  checks : List ℕ → ℕ → Verdict → Row
+  -- A file and one byte, whatever byte it is, the number of its refusal, and the checker's answer.
+  checks_with_one_more : List ℕ → ℕ → Verdict → Row
   -- A file, and the bytes of its translation.
   translates : List ℕ → List ℕ → Row
   -- File, arguments, depth, budget; the bytes of the translation; how both machines stop; bench steps, extras, controller steps.
   runs : List ℕ → List ℤ → ℕ → ℕ → ℕ → Stop (Unit {0}) → ℕ → ℕ → ℕ → Row
 
+-- The number of a refusal; 0 where the file is accepted.
+abbrev pub number_in : Verdict → ℕ
+number_in accepted = 0
+number_in (refused reason place) = number_of reason
+
 abbrev pub Holds : Row → Type 0
-Holds (checks s v) = check_of s ≡ v
-Holds (checks_with_one_more s v) = (b : ℕ) → check_of (s ++ b ∷ []) ≡ v
+Holds (checks s n v) = (check_of s ≡ v) × (number_in v ≡ n)
+Holds (checks_with_one_more s n v) = ((b : ℕ) → check_of (s ++ b ∷ []) ≡ v) × (number_in v ≡ n)
 Holds (translates s t) = translation_of s ≡ t
 Holds (runs s args depth budget target stop n x m) =
     sides_tell s 0 args depth budget (frame_size * max_depth) 8192 (frame_size * max_depth)
@@ -201,12 +207,12 @@ table =
     ∷ runs subtracts (least ∷ pos 0 ∷ []) 256 100 21 (ended (value least)) 2 0 2
     ∷ runs subtracts_guarded (least ∷ pos 1 ∷ []) 256 100 44 (ended (value least)) 3 1 4
     ∷ runs subtracts_called (least ∷ pos 1 ∷ []) 256 100 68 (ended (value least)) 4 3 7
-    ∷ checks [] (refused EndsEarly 0)
-    ∷ checks (0x53 ∷ 0x50 ∷ 0x47 ∷ []) (refused WrongMark 2)
-    ∷ checks (take 40 file_t) (refused EndsEarly 40)
-    ∷ checks_with_one_more file_t (refused LeftOver 41)
-    ∷ checks (set file_t 11 3) (refused MissingLabel 11)
-    ∷ checks (set file_t 28 2) (refused CalleeArity 15)
+    ∷ checks [] 3 (refused EndsEarly 0)
+    ∷ checks (0x53 ∷ 0x50 ∷ 0x47 ∷ []) 1 (refused WrongMark 2)
+    ∷ checks (take 40 file_t) 3 (refused EndsEarly 40)
+    ∷ checks_with_one_more file_t 4 (refused LeftOver 41)
+    ∷ checks (set file_t 11 3) 8 (refused MissingLabel 11)
+    ∷ checks (set file_t 28 2) 10 (refused CalleeArity 15)
     ∷ runs only_raises [] 256 100 12 (ended (uncaught (pos 0))) 1 0 1
     ∷ runs calls_then_raises [] 256 100 72 (ended (value (pos 0))) 5 3 8
     ∷ runs receives_itself (pos 5 ∷ []) 256 100 36 (ended (value (pos 5))) 3 1 4
@@ -214,9 +220,9 @@ table =
     ∷ runs only_raises_zero [] 256 100 19 (ended (uncaught (pos 0))) 1 1 2
     ∷ runs raises_two_frames_up (pos 5 ∷ []) 256 100 82 (ended (value (pos 7))) 6 3 9
     ∷ runs receives_misfit (least ∷ pos 1 ∷ []) 256 100 50 (ended (value (pos 0))) 3 2 5
-    ∷ checks (set receives_itself 16 1) (refused MissingVariable 16)
-    ∷ checks (set raises_argument 3 1) (refused Unknown 9)
-    ∷ checks (set raises_argument 3 3) (refused WrongVersion 3)
+    ∷ checks (set receives_itself 16 1) 7 (refused MissingVariable 16)
+    ∷ checks (set raises_argument 3 1) 6 (refused Unknown 9)
+    ∷ checks (set raises_argument 3 3) 2 (refused WrongVersion 3)
     ∷ translates file_t file_t_translated
     ∷ translates receives_nothing receives_nothing_translated
     ∷ []
@@ -230,7 +236,7 @@ unfolding sides_tell controller_budget sides_verdict call_verdict start_verdict 
     Expressions.expression Parts.pair Parts.level_verdict Tag.number_width Tag.number_slot_at Tag.tag_at Tag.constant_at Tag.copy_at Tag.difference_at Tag.jump_at
     Tag.resume_at Tag.handle_at Tag.branch_at Tag.continuation_at Tag.continuation_with_handler_at Tag.difference_or_raise_at TagNames.judged in_range at_most
     step bench code translate control_step controller extras
-version_two = (refl, (refl, (refl, (refl, (refl, (refl, (refl, (refl, (refl, (refl, tt))))))))))
+version_two = (refl, (refl, (refl, (refl, (refl, ((refl, refl), ((refl, refl), ((refl, refl), (refl, (refl, tt))))))))))
 
 pub cases : All Holds table
 unfolding sides_tell controller_budget sides_verdict call_verdict start_verdict arguments_verdict words_verdict room_verdict translation_of check_of
@@ -241,4 +247,4 @@ unfolding sides_tell controller_budget sides_verdict call_verdict start_verdict 
     Expressions.expression Parts.pair Parts.level_verdict Tag.number_width Tag.number_slot_at Tag.tag_at Tag.constant_at Tag.copy_at Tag.difference_at Tag.jump_at
     Tag.resume_at Tag.handle_at Tag.branch_at Tag.continuation_at Tag.continuation_with_handler_at Tag.difference_or_raise_at TagNames.judged in_range at_most
     step bench code translate control_step controller extras
-cases = (refl, (refl, (refl, (refl, (refl, (refl, (refl, (refl, (refl, (refl, (refl, (refl, (refl, ((λ b. refl), (refl, (refl, (refl, (refl, version_two))))))))))))))))))
+cases = (refl, (refl, (refl, (refl, (refl, (refl, (refl, (refl, (refl, (refl, ((refl, refl), ((refl, refl), ((refl, refl), (((λ b. refl), refl), ((refl, refl), ((refl, refl), (refl, (refl, version_two))))))))))))))))))

@@ -67,7 +67,7 @@ pub fn block(file: &[u8], f: u8, label: u8) -> &[u8]
 {
     match place_of(file, f, label) {
         Ok(place) => &file[place.from..place.to],
-        Err(_) => &[],
+        Err(_) => &file[..0],
     }
 }
 

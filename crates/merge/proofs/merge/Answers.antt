@@ -1,5 +1,6 @@
 use Rattle.std.proofs.lemmas.Result.{err_from_is_err_and}
 use Rattle.runs.proofs.OutputLaws.{answer_refused, answer_accepted}
+use Rattle.procedure_file.proofs.LoadedLaws.{loaded, loaded_invariant}
 use Rattle.merge.specs.Merged.{merged_of, merge_verdict, answer_of, output_of}
 use Rattle.merge.proofs.merge.Goals as goal
 
@@ -26,5 +27,10 @@ returns c =
     let d = c.args.out.now in
     let A = answer_accepted w d c.load.ensures.0 _ c.in_ok-load.was
     (answer_accepted w d c.load-2.ensures.0 _ c.in_ok-load-2.was
-    (record { answer = rw (c.new-kept.ensures, c.new-added.ensures) at c.merge_loaded.ensures.0; output = rw (c.new-kept.ensures, c.new-added.ensures) at c.merge_loaded.ensures.1 })) in
+    (record { answer = rw (c.new-added.ensures) at c.merge_loaded.ensures.0; output = rw (c.new-added.ensures) at c.merge_loaded.ensures.1 })) in
     (A.answer, A.output)
+
+pub merge_loaded-requires : goal.merge_loaded-requires
+merge_loaded-requires c =
+    let L = loaded _ _ _ _ c.load.ensures.0 c.load.ensures.1 c.in_ok-load.was in
+    (L.tabled.laid, loaded_invariant L)

@@ -8,74 +8,74 @@ use Rattle.merge.proofs.put_file.Goals as goal
 
 pub overflow_add-all : goal.overflow_add-all
 overflow_add-all c =
-    let kept = rw (c.table.ensures.value) at c.functions-kept.ensures.count in
-    let added = rw (c.table-2.ensures.value) at c.functions.ensures.count in
-    let few-at = few c.table.ensures.right c.table-2.ensures.right kept added in
+    let kept = c.functions_of-kept.ensures in
+    let added = rw (c.table.ensures.value) at c.functions.ensures.count in
+    let few-at = few c.requires.first.1 c.table.ensures.right kept added in
     omega (arith, few-at.0, few-at.1)
 
 pub overflow_cast-all : goal.overflow_cast-all
 overflow_cast-all c =
-    let kept = rw (c.table.ensures.value) at c.functions-kept.ensures.count in
-    let added = rw (c.table-2.ensures.value) at c.functions.ensures.count in
-    let few-at = few c.table.ensures.right c.table-2.ensures.right kept added in
+    let kept = c.functions_of-kept.ensures in
+    let added = rw (c.table.ensures.value) at c.functions.ensures.count in
+    let few-at = few c.requires.first.1 c.table.ensures.right kept added in
     omega (arith, few-at.0, few-at.1)
 
 pub put_head-head-requires : goal.put_head-head-requires
 put_head-head-requires c =
-    let F = c.bytes-bytes.ensures.right in
-    let G = c.table-2.ensures.right in
-    let version = rw (c.bytes-bytes.ensures.value) at c.version_of-version.ensures in
-    let kept = rw (c.table.ensures.value) at c.functions-kept.ensures.count in
-    let added = rw (c.table-2.ensures.value) at c.functions.ensures.count in
-    let rest = file_rest F G c.bytes-bytes.ensures.laid _ _ _ version (count_is_lem F G kept added) kept c.requires.room in
+    let F = c.requires.first.1 in
+    let G = c.table.ensures.right in
+    let version = c.version_of-version.ensures in
+    let kept = c.functions_of-kept.ensures in
+    let added = rw (c.table.ensures.value) at c.functions.ensures.count in
+    let rest = file_rest F G c.requires.first.0 _ _ _ version (count_is_lem F G kept added) kept c.requires.room in
     room_less (rest_room rest) (omega arith)
 
 pub put_stretch-place-requires-clause-at_le_next : goal.put_stretch-place-requires-clause-at_le_next
 put_stretch-place-requires-clause-at_le_next c =
-    let long = first_long c.bytes-bytes.ensures.right c.table-2.ensures.right in
-    rw (c.bytes-bytes.ensures.value) (long, omega arith)
+    let long = first_long c.requires.first.1 c.table.ensures.right in
+    (long, omega arith)
 
 pub put_stretch-place-requires-clause-room : goal.put_stretch-place-requires-clause-room
 put_stretch-place-requires-clause-room c =
-    let F = c.bytes-bytes.ensures.right in
-    let G = c.table-2.ensures.right in
+    let F = c.requires.first.1 in
+    let G = c.table.ensures.right in
     let file = c.args.first.now in
-    let version = rw (c.bytes-bytes.ensures.value) at c.version_of-version.ensures in
-    let kept = rw (c.table.ensures.value) at c.functions-kept.ensures.count in
-    let added = rw (c.table-2.ensures.value) at c.functions.ensures.count in
-    let rest = file_rest F G c.bytes-bytes.ensures.laid _ _ _ version (count_is_lem F G kept added) kept c.requires.room in
-    rw (c.bytes-bytes.ensures.value) (rest_front (stretch file 6 (length file)) _ (rest_more rest _ _ refl c.put_head-head.ensures))
+    let version = c.version_of-version.ensures in
+    let kept = c.functions_of-kept.ensures in
+    let added = rw (c.table.ensures.value) at c.functions.ensures.count in
+    let rest = file_rest F G c.requires.first.0 _ _ _ version (count_is_lem F G kept added) kept c.requires.room in
+    (rest_front (stretch file 6 (length file)) _ (rest_more rest _ _ refl c.put_head-head.ensures))
 
 pub overflow_cast-kept : goal.overflow_cast-kept
 overflow_cast-kept c =
-    let kept = rw (c.table.ensures.value) at c.functions-kept.ensures.count in
-    let added = rw (c.table-2.ensures.value) at c.functions.ensures.count in
-    let few-at = few c.table.ensures.right c.table-2.ensures.right kept added in
+    let kept = c.functions_of-kept.ensures in
+    let added = rw (c.table.ensures.value) at c.functions.ensures.count in
+    let few-at = few c.requires.first.1 c.table.ensures.right kept added in
     omega (arith, few-at.0)
 
 pub put_functions-requires-clause-count_bound : goal.put_functions-requires-clause-count_bound
 put_functions-requires-clause-count_bound c =
-    let kept = rw (c.table.ensures.value) at c.functions-kept.ensures.count in
-    let added = rw (c.table-2.ensures.value) at c.functions.ensures.count in
-    let few-at = few c.table.ensures.right c.table-2.ensures.right kept added in
+    let kept = c.functions_of-kept.ensures in
+    let added = rw (c.table.ensures.value) at c.functions.ensures.count in
+    let few-at = few c.requires.first.1 c.table.ensures.right kept added in
     omega (arith, few-at.0)
 
 pub put_functions-requires-clause-room : goal.put_functions-requires-clause-room
 put_functions-requires-clause-room c =
-    let F = c.bytes-bytes.ensures.right in
-    let G = c.table-2.ensures.right in
-    let version = rw (c.bytes-bytes.ensures.value) at c.version_of-version.ensures in
-    let kept = rw (c.table.ensures.value) at c.functions-kept.ensures.count in
-    let added = rw (c.table-2.ensures.value) at c.functions.ensures.count in
-    let rest = file_rest F G c.bytes-bytes.ensures.laid _ _ _ version (count_is_lem F G kept added) kept c.requires.room in
-    rest_room (rest_more (rest_more rest _ _ refl c.put_head-head.ensures) _ _ refl (rw (c.bytes-bytes.ensures.value) at c.put_stretch-place.ensures))
+    let F = c.requires.first.1 in
+    let G = c.table.ensures.right in
+    let version = c.version_of-version.ensures in
+    let kept = c.functions_of-kept.ensures in
+    let added = rw (c.table.ensures.value) at c.functions.ensures.count in
+    let rest = file_rest F G c.requires.first.0 _ _ _ version (count_is_lem F G kept added) kept c.requires.room in
+    rest_room (rest_more (rest_more rest _ _ refl c.put_head-head.ensures) _ _ refl c.put_stretch-place.ensures)
 
 pub returns : goal.returns
 returns c =
-    let F = c.bytes-bytes.ensures.right in
-    let G = c.table-2.ensures.right in
-    let version = rw (c.bytes-bytes.ensures.value) at c.version_of-version.ensures in
-    let kept = rw (c.table.ensures.value) at c.functions-kept.ensures.count in
-    let added = rw (c.table-2.ensures.value) at c.functions.ensures.count in
-    let rest = file_rest F G c.bytes-bytes.ensures.laid _ _ _ version (count_is_lem F G kept added) kept c.requires.room in
-    rest_last (rest_more (rest_more rest _ _ refl c.put_head-head.ensures) _ _ refl (rw (c.bytes-bytes.ensures.value) at c.put_stretch-place.ensures)) c.put_functions.ensures
+    let F = c.requires.first.1 in
+    let G = c.table.ensures.right in
+    let version = c.version_of-version.ensures in
+    let kept = c.functions_of-kept.ensures in
+    let added = rw (c.table.ensures.value) at c.functions.ensures.count in
+    let rest = file_rest F G c.requires.first.0 _ _ _ version (count_is_lem F G kept added) kept c.requires.room in
+    rest_last (rest_more (rest_more rest _ _ refl c.put_head-head.ensures) _ _ refl c.put_stretch-place.ensures) c.put_functions.ensures
