@@ -184,7 +184,7 @@ def stored_rows():
 def refusals():
     """The number of each reason (the variants of `Reason` of crate `parsing`) has a row in docs/REFUSALS.md."""
     rows = {cells(line)[0] for _, line in numbered(read("docs/REFUSALS.md")) if cells(line)}
-    numbers = re.findall(r"^ *\w+ = (\d+),$", read("crates/parsing/src/reason.rt"), re.M)
+    numbers = re.findall(r"^ *Reason::\w+ => (\d+),$", read("crates/parsing/src/reason.rt"), re.M)
     if not numbers:
         found("docs/REFUSALS.md", 1, "no reasons found in crates/parsing/src/reason.rt")
     for number in numbers:

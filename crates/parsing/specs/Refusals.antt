@@ -1,7 +1,7 @@
 -- The numbers of refusals (document 01, 'What is turned down, by who can cause it'; from 18 on document 02): the texts stand at the reasons.
 use Rattle.std.specs.Prelude.{ℕ}
 use Rattle.parsing.specs.declared.reason.Reason.{Reason}
-use Rattle.parsing.specs.declared.reason.Reason.TheVariants.{WrongMark, WrongVersion, EndsEarly, LeftOver, OutOfRange, Unknown, MissingVariable, MissingLabel, MissingFunction, CalleeArity, UnboundSlot, WrongLength, WrongSlot, StartArity, FileTooLong, NoRoom, TranslationTooLong, NoCharge, NotWhole, NotContinuation, NotHandler, MergedTooLarge}
+use Rattle.parsing.specs.declared.reason.Reason.TheVariants.{WrongMark, WrongVersion, EndsEarly, LeftOver, OutOfRange, Unknown, MissingVariable, MissingLabel, MissingFunction, CalleeArity, UnboundSlot, WrongLength, WrongSlot, StartArity, FileTooLong, NoRoom, TranslationTooLong, NoCharge, NotWhole, NotContinuation, NotHandler, MergedTooLarge, Other}
 
 abbrev pub number_of : Reason → ℕ
 number_of WrongMark = 1
@@ -26,3 +26,4 @@ number_of NotWhole = 19
 number_of NotContinuation = 20
 number_of NotHandler = 21
 number_of MergedTooLarge = 22
+number_of (Other n) = n

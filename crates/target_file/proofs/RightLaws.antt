@@ -21,7 +21,7 @@ use Rattle.parsing.specs.Parser.{Verdict, accepted, or_else, refused_unless}
 use Rattle.parsing.specs.VerdictLaws.{or_accepted, unless_accepted}
 use Rattle.target_tags.specs.Tag.{slot_in, number_slot}
 use Rattle.target_slots.specs.declared.slots.Kind as slots
-use Rattle.target_slots.specs.declared.slots.Kind.TheVariants.{Unbound, Whole, Continuation, Handler}
+use Rattle.target_slots.specs.declared.slots.Kind.TheVariants.{Unbound, Whole, Continuation, Handler, Other}
 use Rattle.target_slots.specs.SlotsLaws.{same_kind-true, same_kind-refl}
 use Rattle.target_slots.specs.Slots.{same_kind, kind_refusal, binds, reads, differ, bound, bound_number, entry_kinds}
 use Rattle.target_names.specs.Names.{function, arity, values, reads_number, binds_number, difference_names}
@@ -37,11 +37,13 @@ kind_in whole_kind = Whole
 kind_in continuation_kind = Continuation
 kind_in handler_kind = Handler
 
+-- (`Other` is none of the kinds of the rules: any of them may stand for it.)
 abbrev kind_of : slots.Kind → Kind
 kind_of Unbound = unbound_kind
 kind_of Whole = whole_kind
 kind_of Continuation = continuation_kind
 kind_of Handler = handler_kind
+kind_of (Other b) = unbound_kind
 
 kind_back : (k : Kind) → kind_of (kind_in k) ≡ k
 kind_back unbound_kind = refl

@@ -6,7 +6,7 @@ use Rattle.parsing.specs.declared.reason.Reason.TheVariants.{UnboundSlot, WrongS
 use Rattle.parsing.specs.Parser.{Verdict, or_else, refused_unless}
 use Rattle.target_tags.specs.Tag.{max_slots}
 use Rattle.target_slots.specs.declared.slots.Kind.{Kind}
-use Rattle.target_slots.specs.declared.slots.Kind.TheVariants.{Unbound, Whole, Continuation, Handler}
+use Rattle.target_slots.specs.declared.slots.Kind.TheVariants.{Unbound, Whole, Continuation, Handler, Other}
 
 -- "Slots are whole, continuation or handler." Below, a list has the kinds of slots 0 to 36 (in version 1 slot 36 is never bound).
 
@@ -16,6 +16,7 @@ same_kind Unbound Unbound = true
 same_kind Whole Whole = true
 same_kind Continuation Continuation = true
 same_kind Handler Handler = true
+same_kind (Other j) (Other k) = eqb j k
 same_kind j k = false
 
 -- A slot that is bound: "13 slot above 35", in version 2 above 36 (Slip 7): none of the m slots of a version.

@@ -2,30 +2,36 @@
 use Rattle.parsing.specs.declared.reason.Reason.{Reason}
 use Rattle.parsing.specs.declared.reason.Reason.TheVariants.{WrongSlot}
 use Rattle.std.specs.Prelude.{ℕ, ◌+◌, ◌≤◌, ◌<◌, ◌≡◌, refl, true, List, get_or}
-use denote.Enum.Bare.{sameb, same_true}
-use Rattle.std.proofs.Common.{◌∙◌, add-one, lt-ltb, le-ltb}
+use Rattle.std.proofs.Common.{sym, ap, add-one, true≢false, eqb-true, eq-eqb, lt-ltb, le-ltb}
 use Rattle.parsing.specs.Parser.{refused, refused_unless}
 use Rattle.target_slots.specs.declared.slots.Kind.{Kind}
-use Rattle.target_slots.specs.declared.slots.Kind.TheVariants.{Unbound, Whole, Continuation, Handler}
-use Rattle.target_slots.specs.contracts.slots.Kind.{the_type}
+use Rattle.target_slots.specs.declared.slots.Kind.TheVariants.{Unbound, Whole, Continuation, Handler, Other}
+use Rattle.target_slots.specs.contracts.slots.KindPartialEq.TheImpl as equality
 use Rattle.target_slots.specs.Slots.{same_kind, kind_refusal, binds, reads, bound, entry_kinds}
 
--- The test of two kinds: `==` of the code computes it by the variants' tags.
-pub tags_same : (j k : Kind) → sameb the_type j k ≡ same_kind j k
-tags_same Unbound Unbound = refl
-tags_same Whole Whole = refl
-tags_same Continuation Continuation = refl
-tags_same Handler Handler = refl
-tags_same j k = refl
+-- The test of two kinds, as `==` of the code computes it.
+pub equal_same : (j k : Kind) → (equality.ghosts).eq j k ≡ same_kind j k
+equal_same Unbound Unbound = refl
+equal_same Whole Whole = refl
+equal_same Continuation Continuation = refl
+equal_same Handler Handler = refl
+equal_same (Other a) (Other b) = refl
+equal_same j k = refl
 
 pub same_kind-true : (j k : Kind) → same_kind j k ≡ true → j ≡ k
-same_kind-true j k e = same_true the_type tt j k (tags_same j k ∙ e)
+same_kind-true Unbound Unbound e = refl
+same_kind-true Whole Whole e = refl
+same_kind-true Continuation Continuation e = refl
+same_kind-true Handler Handler e = refl
+same_kind-true (Other a) (Other b) e = ap Other (eqb-true a b e)
+same_kind-true j k e = absurd (true≢false (sym e))
 
 pub same_kind-refl : (k : Kind) → same_kind k k ≡ true
 same_kind-refl Unbound = refl
 same_kind-refl Whole = refl
 same_kind-refl Continuation = refl
 same_kind-refl Handler = refl
+same_kind-refl (Other a) = eq-eqb a a refl
 
 -- A slot that is read, within the slots that there are and beyond them.
 module _ (m : ℕ) (ks : List Kind) (k : Kind) (place x : ℕ) where

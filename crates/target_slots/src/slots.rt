@@ -14,6 +14,8 @@ pub enum Kind {
     Whole,
     Continuation,
     Handler,
+    // For a kind that no file gives, which a caller may hand in.
+    Other(u8),
 }
 
 // A slot that is bound, where there are so many slots.
@@ -72,14 +74,21 @@ pub fn differs(slot: usize, handler: usize, place: usize) -> Result<(), Refusal>
     refused_unless(slot != handler, Reason::WrongSlot, place)
 }
 
+// A slot bound in kinds that are lent.
+pub fn bind_in(kinds: &mut [Kind; MAX_SLOTS], slot: usize, kind: Kind)
+    ensures { kinds.new ≡ bound kinds.old slot kind }
+{
+    if slot < MAX_SLOTS {
+        kinds[slot] = kind;
+    }
+}
+
 // The kinds with a slot bound.
 pub fn bind(kinds: [Kind; MAX_SLOTS], slot: usize, kind: Kind) -> [Kind; MAX_SLOTS]
     ensures { result ≡ bound kinds slot kind }
 {
     let mut new = kinds;
-    if slot < MAX_SLOTS {
-        new[slot] = kind;
-    }
+    bind_in(&mut new, slot, kind);
     new
 }
 

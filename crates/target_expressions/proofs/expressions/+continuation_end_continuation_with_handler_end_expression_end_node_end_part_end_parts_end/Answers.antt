@@ -13,7 +13,7 @@ use Rattle.target_parts.specs.PartsLaws.{level_accepted}
 use Rattle.target_expressions.specs.Ends.{parts_end}
 use Rattle.target_expressions.proofs.ExpressionLaws.{node_fields}
 use Rattle.target_expressions.proofs.EndLaws.{part_refused, part_in, part_past, rest_stopped, handler_outside, handler_in, node_right, node_wrong, expression_onward, expression_bound, expression_ended, expression_halted, onward_moves, parts_by_tag, continuation_on}
-use Rattle.target_expressions.proofs.expressions.+continuation_with_handler_end_expression_end_node_end_part_end_parts_end.Goals as goal
+use Rattle.target_expressions.proofs.expressions.+continuation_end_continuation_with_handler_end_expression_end_node_end_part_end_parts_end.Goals as goal
 
 -- A node that is none of tags 7 to 10.
 no_parts_by : (names : Bool) (ps s : List ℕ) (level : ℕ) (ks : List Kind) (at : ℕ) (t : Tag)
@@ -33,6 +33,9 @@ no_parts_by names ps s level ks at (ContinuationWithHandler x p h q n next) a b 
 no_parts_by names ps s level ks at (DifferenceOrRaise x y z n next) a b d e = absurd (e x y z n next refl)
 no_parts_by names ps s level ks at (Refused r) a b d e = refl
 
+pub continuation_end-returns : goal.continuation_end-returns
+continuation_end-returns t c = rw (← c.bind_in.ensures) c.part_end.ensures
+
 pub continuation_with_handler_end-overflow_add-place : goal.continuation_with_handler_end-overflow_add-place
 continuation_with_handler_end-overflow_add-place t c =
     omega (arith, c.number_width.ensures, width_bound (version_of c.args.file.now))
@@ -51,17 +54,17 @@ continuation_with_handler_end-part_end-requires-2 t c =
 pub continuation_with_handler_end-returns-in_err-middle : goal.continuation_with_handler_end-returns-in_err-middle
 continuation_with_handler_end-returns-in_err-middle t c =
     let p = err_from_is_err_and c.from_residual.result c.from_residual.ensures.1 in
-    rw (p.1, p.2) (rest_stopped _ _ _ _ _ _ _ _ _ _ _ _ _ _ c.number_width.ensures c.bind.ensures c.bind-rest.ensures _ (sym c.part_end.ensures ∙ c.in_err-middle.was))
+    rw (p.1, p.2) (rest_stopped _ _ _ _ _ _ _ _ _ _ _ _ _ _ c.number_width.ensures c.bind_in.ensures c.bind_in-2.ensures _ (sym c.part_end.ensures ∙ c.in_err-middle.was))
 
 pub continuation_with_handler_end-returns-in_err-n : goal.continuation_with_handler_end-returns-in_err-n
 continuation_with_handler_end-returns-in_err-n t c =
     let p = err_from_is_err_and c.from_residual-in_err-n.result c.from_residual-in_err-n.ensures.1 in
-    rw (p.1, p.2) (handler_outside _ _ _ _ _ _ _ _ _ _ _ _ _ _ c.number_width.ensures c.bind.ensures c.bind-rest.ensures _ (sym c.part_end.ensures ∙ c.in_ok-middle.was) _
+    rw (p.1, p.2) (handler_outside _ _ _ _ _ _ _ _ _ _ _ _ _ _ c.number_width.ensures c.bind_in.ensures c.bind_in-2.ensures _ (sym c.part_end.ensures ∙ c.in_ok-middle.was) _
     (sym c.size_at.ensures ∙ c.in_err-n.was))
 
 pub continuation_with_handler_end-returns : goal.continuation_with_handler_end-returns
 continuation_with_handler_end-returns t c =
-    handler_in _ _ _ _ _ _ _ _ _ _ _ _ _ _ c.number_width.ensures c.bind.ensures c.bind-rest.ensures _ (sym c.part_end.ensures ∙ c.in_ok-middle.was) _ _ c.bind_number-caught.ensures
+    handler_in _ _ _ _ _ _ _ _ _ _ _ _ _ _ c.number_width.ensures c.bind_in.ensures c.bind_in-2.ensures _ (sym c.part_end.ensures ∙ c.in_ok-middle.was) _ _ c.bind_number-caught.ensures
     (sym c.size_at.ensures ∙ c.in_ok-n.was) c.part_end-2.ensures
 
 pub expression_end-loop-next-smaller-in-Onward : goal.expression_end-loop-next-smaller-in-Onward
@@ -84,7 +87,7 @@ pub expression_end-loop-next-preserved : goal.expression_end-loop-next-preserved
 expression_end-loop-next-preserved t c =
     let m = onward_moves _ _ _ _ _ _ c.tag_at-node.ensures c.node_end.ensures _ c.in-Bound.is refl in
     let v = c.loop-next.invariant in
-    (omega (arith, v.0, m.forward), m.inside, expression_bound _ _ _ _ _ _ c.tag_at-node.ensures c.node_end.ensures _ _ _ c.in-Bound.is c.bind-tail.ensures ∙ v.2)
+    (omega (arith, v.0, m.forward), m.inside, expression_bound _ _ _ _ _ _ c.tag_at-node.ensures c.node_end.ensures _ _ _ c.in-Bound.is c.bind_in.ensures ∙ v.2)
 
 pub expression_end-returns-in-Ended : goal.expression_end-returns-in-Ended
 expression_end-returns-in-Ended t c =
@@ -127,11 +130,11 @@ parts_end-part_end-requires t c =
     let f = node_fields _ _ _ (sym c.in-Branch.is ∙ c.requires.node_at.is) in
     (omega (arith, q, f.here, f.forward, f.inside), c.requires.file_len_bound)
 
-pub parts_end-part_end-requires-in-Continuation : goal.parts_end-part_end-requires-in-Continuation
-parts_end-part_end-requires-in-Continuation t c =
+pub parts_end-continuation_end-requires : goal.parts_end-continuation_end-requires
+parts_end-continuation_end-requires t c =
     let q = c.decreases in
     let f = node_fields _ _ _ (sym c.in-Continuation.is ∙ c.requires.node_at.is) in
-    (omega (arith, q, f.here, f.forward, f.inside), c.requires.file_len_bound)
+    (omega (arith, q), (c.requires.file_len_bound, (f.forward, f.inside)))
 
 pub parts_end-continuation_with_handler_end-requires : goal.parts_end-continuation_with_handler_end-requires
 parts_end-continuation_with_handler_end-requires t c =
@@ -151,8 +154,7 @@ unfolding parts_end
 parts_end-returns-in-Branch t c = parts_by_tag _ _ _ _ _ _ c.in-Branch.is c.part_end.ensures
 
 pub parts_end-returns-in-Continuation : goal.parts_end-returns-in-Continuation
-parts_end-returns-in-Continuation t c =
-    continuation_on _ _ _ _ _ _ _ c.in-Continuation.is c.bind-rest.ensures c.part_end-in-Continuation.ensures
+parts_end-returns-in-Continuation t c = continuation_on _ _ _ _ _ _ _ c.in-Continuation.is refl c.continuation_end.ensures
 
 pub parts_end-returns-in-ContinuationWithHandler : goal.parts_end-returns-in-ContinuationWithHandler
 unfolding parts_end

@@ -1,7 +1,10 @@
 use Rattle.std.proofs.Common.{◌≡◌, length, ◌≤◌, ◌+◌, ◌-◌, ◌*◌}
 use Rattle.parsing.specs.Parser.{past_of}
 use Rattle.target_expressions.specs.Expressions.{expression}
-use Rattle.target_expressions.proofs.expressions.+continuation_with_handler_end_expression_end_node_end_part_end_parts_end.Given as goal
+use Rattle.target_expressions.proofs.expressions.+continuation_end_continuation_with_handler_end_expression_end_node_end_part_end_parts_end.Given as goal
+
+abbrev pub decreases-continuation_end : goal.decreases-continuation_end
+decreases-continuation_end l = 8 * (length l.file.now - l.at) + 2
 
 abbrev pub decreases-continuation_with_handler_end : goal.decreases-continuation_with_handler_end
 decreases-continuation_with_handler_end l = 8 * (length l.file.now - l.at) + 2
